@@ -1,0 +1,113 @@
+-- The calls: pass checks and submissions, each given what the one before left; number 6 of what is lent.
+use Prim.Native.Nat.{ℕ, zero, suc, _+_}
+use mathlib.Core.List.{List, [], _∷_}
+use mathlib.Core.Bool.{Bool, true, false, _&&_, cond}
+use lib.ListN.{length, replicate}
+use lib.Dec.{leb, ltb}
+use Rattle.definition.specs.Sizes.{maxSurfaces, maxDiscards, maxActions, maxClears}
+use Rattle.definition.specs.Session.{Session, arrayLayers, surfaceCount, surfacesOf}
+use Rattle.definition.specs.Verdict.{nowhere, refusedAt}
+use Rattle.definition.specs.MemoryInit.{Lists}
+use Rattle.definition.specs.Pass.{Reply, refusal, Outcome, refusedPass, checkPass}
+use Rattle.definition.specs.Submission.{submitBytes, submitLists}
+use Rattle.definition.specs.declared.Surface.{Surface}
+use Rattle.definition.specs.declared.Range.{Range}
+use Rattle.definition.specs.declared.Action.{Action}
+
+pub record State : Type 0 where
+  pub lists : Lists
+  pub status : List ℕ
+
+-- A fresh session has status 0 and no entries.
+abbrev pub noEntries : Lists
+noEntries = record { discards = []; actions = []; clears = [] }
+
+abbrev pub fresh : State
+fresh = record { lists = noEntries; status = replicate maxSurfaces 0 }
+
+-- ── 6, after 4: counts, records and status bytes in range
+
+unfoldable pub surfaceRight : Session → Surface → Bool
+surfaceRight S s =
+    ltb (s .texture) (S .textureCount) && ltb (s .mip) (S .texture (s .texture) .mips) && ltb (s .layer) (arrayLayers (S .texture (s .texture)))
+
+unfoldable pub rangeRight : Session → Range → Bool
+rangeRight S r =
+    ltb (r .texture) (S .textureCount)
+    && leb 1 (r .mips) && leb (r .mip + r .mips) (S .texture (r .texture) .mips)
+    && leb 1 (r .layers) && leb (r .layer + r .layers) (arrayLayers (S .texture (r .texture)))
+
+abbrev pub surfacesRight : Session → List Surface → Bool
+surfacesRight S [] = true
+surfacesRight S (s ∷ rest) = surfaceRight S s && surfacesRight S rest
+
+abbrev pub actionsRight : Session → List Action → Bool
+actionsRight S [] = true
+actionsRight S (a ∷ rest) = rangeRight S (a .range) && actionsRight S rest
+
+-- Of the first n bytes: bytes past the last surface are not tested.
+abbrev pub bytesRight : ℕ → List ℕ → Bool
+bytesRight zero bytes = true
+bytesRight (suc n) [] = false
+bytesRight (suc n) (b ∷ bytes) = leb b 3 && bytesRight n bytes
+
+unfoldable pub countsRight : Lists → Bool
+countsRight l = leb (length (l .discards)) maxDiscards && leb (length (l .actions)) maxActions && leb (length (l .clears)) maxClears
+
+unfoldable pub lentRight : Session → State → Bool
+lentRight S σ =
+    countsRight (σ .lists)
+    && surfacesRight S (σ .lists .discards) && actionsRight S (σ .lists .actions) && surfacesRight S (σ .lists .clears)
+    && bytesRight (surfaceCount S) (σ .status)
+
+-- ── the calls
+
+-- The check of pass i, or a submission.
+pub data Call : Type 0 where
+  pass : ℕ → Call
+  submit : Call
+
+-- What a call answers: a pass's reply, or a submission's number and the status bytes after it.
+pub data Answer : Type 0 where
+  checked : Reply → Answer
+  submitted : ℕ → List ℕ → Answer
+
+pub record Step : Type 0 where
+  pub state : State
+  pub answer : Answer
+
+-- A pass number at or past the count is refused as 5.
+unfoldable pub passCall : Session → ℕ → Lists → Outcome
+passCall S i l = cond (ltb i (S .passCount)) (checkPass S (S .pass i) l) (refusedPass (refusedAt 5 nowhere) l)
+
+abbrev pub submitState : Session → State → State
+submitState S σ = record
+    { lists = submitLists (σ .lists); status = submitBytes (σ .lists .actions) (σ .lists .discards) (surfacesOf S) (σ .status) }
+
+abbrev pub passStep : Outcome → State → Step
+passStep o σ = record { state = record { lists = o .lists; status = σ .status }; answer = checked (o .reply) }
+
+abbrev pub submitStep : State → Step
+submitStep σ = record { state = σ; answer = submitted 0 (σ .status) }
+
+-- Where what is lent is right.
+abbrev pub called : Session → Call → State → Step
+called S (pass i) σ = passStep (passCall S i (σ .lists)) σ
+called S submit σ = submitStep (submitState S σ)
+
+-- Where it is not: everything stays as found.
+abbrev pub notLent : Call → State → Step
+notLent (pass i) σ = record { state = σ; answer = checked (refusal (refusedAt 6 nowhere)) }
+notLent submit σ = record { state = σ; answer = submitted 6 (σ .status) }
+
+unfoldable pub call : Session → Call → State → Step
+call S c σ = cond (lentRight S σ) (called S c σ) (notLent c σ)
+
+-- The calls in order, from the state σ: the answers, and the state that is left.
+abbrev pub answers : Session → List Call → State → List Answer
+answers S [] σ = []
+answers S (c ∷ cs) σ = call S c σ .answer ∷ answers S cs (call S c σ .state)
+
+abbrev pub after : Session → List Call → State → State
+after S [] σ = σ
+after S (c ∷ cs) σ = after S cs (call S c σ .state)

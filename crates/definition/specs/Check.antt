@@ -1,0 +1,124 @@
+-- Whether a pass is accepted, apart from the lists' lengths: numbers 5 and 10 to 48, in document 01's order.
+use Prim.Native.Nat.{ℕ, zero, suc, _+_, _^_}
+use mathlib.Core.List.{List, [], _++_}
+use mathlib.Core.Bool.{Bool, not, _&&_, _||_, cond}
+use lib.Dec.{leb, ltb, eqb}
+use Rattle.definition.specs.Formats.{isDepthStencil, hasDepth, hasStencil}
+use Rattle.definition.specs.Session.{Pass, Session, isNone, strict, selectiveMultiview, formatOf, transient}
+use Rattle.definition.specs.Readable.{passReads}
+use Rattle.definition.specs.Verdict.{resolveAt, atDepthStencil, nowhere, fine, isFine, refusedAt, _then_, unless}
+use Rattle.definition.specs.Channel.{LoadOp, loadOf, keepOf, ignores, transientOps, depthChannel, stencilChannel, transientChannel, depthResolved, stencilResolved, resolvedVerdict}
+use Rattle.definition.specs.Views.{noneSeen, isFirst, takes, depthStencilView, colorView, resolveView, seeView}
+use Rattle.definition.specs.declared.View.{View}
+use Rattle.definition.specs.declared.Channel.{Channel}
+use Rattle.definition.specs.declared.Color.{Color}
+use Rattle.definition.specs.declared.Slot.{Slot}
+use Rattle.definition.specs.declared.Seen.{Seen}
+use Rattle.definition.specs.declared.Surface.{Surface}
+use Rattle.definition.specs.declared.Verdict.{Verdict}
+use Rattle.definition.specs.declared.Progress.{Progress}
+
+-- ── operations: 10 to 26 (fill_arc_desc)
+
+abbrev pub slotLoad : Slot → LoadOp Color
+slotLoad c = loadOf (c .load) (c .clear)
+
+-- 11 and 12, of slot k.
+unfoldable pub slotOps : Session → Slot → ℕ → Verdict
+slotOps S c k =
+    cond (isNone (c .view)) fine
+    (unless (not (ignores (slotLoad c) && strict S)) 11 k
+    then unless (not (transient (S .view (c .view))) || transientOps (slotLoad c) (keepOf (c .store))) 12 k)
+
+-- Of the first n slots, in order.
+unfoldable pub colorOps : Session → Pass → ℕ → Verdict
+colorOps S p zero = fine
+colorOps S p (suc n) = colorOps S p n then slotOps S (p .slot n) n
+
+-- 13 to 26, of a depth-stencil view of format f: 14 to 24 only for an aspect that it has.
+unfoldable pub channelOps : Bool → Bool → ℕ → Channel → Channel → Verdict
+channelOps strict transient f d s =
+    unless (isDepthStencil f) 13 atDepthStencil
+    then cond (transient && hasDepth f) (transientChannel (depthChannel d) 14 15) fine
+    then cond (transient && hasStencil f) (transientChannel (stencilChannel s) 16 17) fine
+    then resolvedVerdict (depthResolved (hasDepth f) strict d)
+    then resolvedVerdict (stencilResolved (hasStencil f) strict s)
+
+unfoldable pub depthStencilOps : Session → Pass → Verdict
+depthStencilOps S p =
+    cond (isNone (p .depthStencil)) fine
+    (channelOps (strict S) (transient (S .view (p .depthStencil))) (formatOf S (S .view (p .depthStencil))) (p .depth) (p .stencil))
+
+-- 10 to 26.
+unfoldable pub opsVerdict : Session → Pass → Verdict
+opsVerdict S p =
+    unless (leb (p .colors) (S .maxColors)) 10 nowhere
+    then colorOps S p (p .colors)
+    then depthStencilOps S p
+
+-- ── views: 30 to 48 (RenderPassInfo::start)
+
+abbrev pub progress : Verdict → Seen → Progress
+progress v seen = record { verdict = v; seen = seen }
+
+-- What a slot takes, and what the first k slots take.
+abbrev pub resolveTakes : Session → Slot → List Surface
+resolveTakes S c = cond (isNone (c .resolve)) [] (takes (S .view (c .resolve)) 0)
+
+abbrev pub slotTakes : Session → Slot → List Surface
+slotTakes S c = cond (isNone (c .view)) [] (resolveTakes S c ++ takes (S .view (c .view)) (c .slice))
+
+unfoldable pub takenBefore : Session → Pass → ℕ → List Surface
+takenBefore S p zero = []
+takenBefore S p (suc k) = slotTakes S (p .slot k) ++ takenBefore S p k
+
+unfoldable pub depthStencilStep : Session → Pass → Progress
+depthStencilStep S p =
+    cond (isNone (p .depthStencil)) (progress fine noneSeen)
+    (progress (depthStencilView S (S .view (p .depthStencil))) (seeView S noneSeen (S .view (p .depthStencil)) atDepthStencil))
+
+-- The resolve target of slot k, whose colour view is v, where `taken` is taken.
+unfoldable pub resolveStep : Session → Seen → List Surface → Slot → View → ℕ → Progress
+resolveStep S seen taken c v k =
+    cond (isNone (c .resolve)) (progress fine seen)
+    (progress (resolveView S seen (takes v (c .slice) ++ taken) v (S .view (c .resolve)) (resolveAt k)) seen)
+
+-- The colour view v of slot k, then its resolve target.
+unfoldable pub colorStep : Session → Seen → List Surface → Slot → View → ℕ → Progress
+colorStep S seen taken c v k =
+    cond (isFine (colorView S seen taken c v k)) (resolveStep S (seeView S seen v k) taken c v k)
+    (progress (colorView S seen taken c v k) seen)
+
+unfoldable pub slotStep : Session → Pass → ℕ → Seen → Progress
+slotStep S p k seen =
+    cond (isNone (p .slot k .view)) (progress fine seen)
+    (colorStep S seen (takenBefore S p k) (p .slot k) (S .view (p .slot k .view)) k)
+
+-- Slot k after a: nothing more once the pass is refused.
+unfoldable pub nextSlot : Session → Pass → ℕ → Progress → Progress
+nextSlot S p k a = cond (isFine (a .verdict)) (slotStep S p k (a .seen)) a
+
+-- The first n slots, after a.
+unfoldable pub slotSteps : Session → Pass → Progress → ℕ → Progress
+slotSteps S p a zero = a
+slotSteps S p a (suc n) = nextSlot S p n (slotSteps S p a n)
+
+-- 46; then 31 and 47 of the mask: its top bit is below the layers where the mask is below 2 ^ layers, and 2 ^ layers - 1 is full.
+unfoldable pub maskVerdict : Session → ℕ → ℕ → Verdict
+maskVerdict S mask layers =
+    unless (not (eqb layers 0)) 46 nowhere
+    then cond (eqb mask 0) fine
+    (unless (ltb mask (2 ^ layers)) 31 nowhere then unless (eqb (mask + 1) (2 ^ layers) || selectiveMultiview S) 47 nowhere)
+
+unfoldable pub maskStep : Session → Pass → Progress → Progress
+maskStep S p a = progress (a .verdict then maskVerdict S (p .mask) (a .seen .layers)) (a .seen)
+
+unfoldable pub viewSteps : Session → Pass → Progress
+viewSteps S p = maskStep S p (slotSteps S p (depthStencilStep S p) (p .colors))
+
+-- 5 and 10 to 48, and the extent and samples.
+unfoldable pub check : Session → Pass → Progress
+check S p =
+    cond (passReads S p)
+    (cond (isFine (opsVerdict S p)) (viewSteps S p) (progress (opsVerdict S p) noneSeen))
+    (progress (refusedAt 5 nowhere) noneSeen)

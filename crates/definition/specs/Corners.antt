@@ -1,0 +1,250 @@
+-- Document 01's corners marked P, and what it calls wrong yet inviting, as one table: passes checked in one buffer, submissions, and what each must answer.
+use Prim.Native.Nat.{ℕ}
+use mathlib.Core.Path.{_≡_, refl}
+use mathlib.Core.List.{List, [], _∷_, _++_, map}
+use mathlib.Core.Bool.{Bool, true, false, _&&_}
+use lib.ListN.{length, getD, take, replicate}
+use lib.Dec.{eqb}
+use Rattle.definition.specs.Sizes.{noView}
+use Rattle.definition.specs.Surfaces.{surfaceAt}
+use Rattle.definition.specs.Session.{Pass, Session, surfaceCount}
+use Rattle.definition.specs.MemoryInit.{Lists, implicitAt}
+use Rattle.definition.specs.Pass.{black, Outcome, checkPass}
+use Rattle.definition.specs.Calls.{State, noEntries, submitState}
+use Rattle.definition.specs.Computing.{computing}
+use Rattle.definition.specs.declared.Texture.{Texture}
+use Rattle.definition.specs.declared.View.{View}
+use Rattle.definition.specs.declared.Channel.{Channel}
+use Rattle.definition.specs.declared.Slot.{Slot}
+use Rattle.definition.specs.declared.Attachment.{Attachment}
+
+-- ── a session
+
+-- Format, dimension, size, depth or layers, mips, samples.
+abbrev texture : ℕ → ℕ → ℕ → ℕ → ℕ → ℕ → Texture
+texture f d size layers mips samples = record
+    { format = f; dimension = d; width = size; height = size; depth = layers; mips = mips; samples = samples; usage = 16 }
+
+-- Texture, dimension, mips, layers.
+abbrev view : ℕ → ℕ → ℕ → ℕ → View
+view t d mips layers = record
+    { texture = t; dimension = d; mip = 0; mips = mips; layer = 0; layers = layers; usage = 16; resolvable = 1 }
+
+-- View k is of texture k, but for the last.
+abbrev textures : List Texture
+textures =
+    texture 3 2 4 1 1 1  -- 0: rgba8unorm, 4 × 4
+    ∷ texture 3 2 4 1 1 1  -- 1: another
+    ∷ texture 3 2 8 1 1 1  -- 2: 8 × 8
+    ∷ texture 22 2 4 1 1 1  -- 3: depth24plus
+    ∷ texture 20 2 4 1 1 1  -- 4: stencil8
+    ∷ texture 23 2 4 1 1 1  -- 5: depth24plus-stencil8
+    ∷ texture 3 3 4 4 1 1  -- 6: 3D, four slices
+    ∷ texture 3 2 4 2 1 1  -- 7: two layers
+    ∷ texture 3 2 4 1 1 4  -- 8: four samples
+    ∷ texture 3 2 4 1 2 1  -- 9: two mips
+    ∷ texture 3 2 4 1 1 4  -- 10: four samples
+    ∷ []
+
+abbrev views : List View
+views =
+    view 0 2 1 1 ∷ view 1 2 1 1 ∷ view 2 2 1 1 ∷ view 3 2 1 1 ∷ view 4 2 1 1 ∷ view 5 2 1 1 ∷ view 6 6 1 1 ∷ view 7 3 1 2 ∷ view 8 2 1 1
+    ∷ view 9 2 1 1
+    ∷ view 10 2 1 1
+    ∷ view 9 2 2 1  -- 11: both mips of texture 9
+    ∷ []
+
+-- ── passes
+
+-- Load, store, and the clear value's bits if given.
+abbrev channel : ℕ → ℕ → ℕ → ℕ → Channel
+channel load store given clear = record { load = load; store = store; readonly = 0; given = given; clear = clear }
+
+abbrev absent : Channel
+absent = channel 3 2 0 0
+
+-- View, resolve target, load, store.
+abbrev slot : ℕ → ℕ → ℕ → ℕ → Slot
+slot v r load store = record { view = v; sliced = 0; slice = 0; resolve = r; load = load; store = store; clear = black }
+
+abbrev slice : ℕ → Slot
+slice n = record { view = 6; sliced = 1; slice = n; resolve = noView; load = 1; store = 0; clear = black }
+
+abbrev pass : ℕ → List Slot → ℕ → Channel → Channel → Pass
+pass mask slots ds d s = record
+    { colors = length slots; mask = mask; ends = 0; depthStencil = ds; depth = d; stencil = s; slot = λ k. getD slots k (slot noView noView 0 0) }
+
+abbrev colors : List Slot → Pass
+colors slots = pass 0 slots noView absent absent
+
+abbrev depthStencil : ℕ → Channel → Channel → Pass
+depthStencil v d s = pass 0 [] v d s
+
+-- Strict, MULTIVIEW and SELECTIVE_MULTIVIEW.
+abbrev desk : Session
+desk = record {
+  textureCount = 11;
+  viewCount = 12;
+  passCount = 0;
+  maxColors = 8;
+  maxMultiview = 4;
+  flags = 7;
+  texture = λ k. getD textures k (texture 0 0 0 0 0 0);
+  view = λ k. getD views k (view 0 0 0 0);
+  pass = λ k. colors [];
+}
+
+-- ── the table
+
+-- Number, place, earlier place, clears returned, length of the discard list, stencil clear of the first attachment.
+abbrev stencilOf : List Attachment → ℕ
+stencilOf [] = 0
+stencilOf (x ∷ xs) = x .stencil
+
+abbrev says : Outcome → List ℕ
+says o =
+    o .reply .verdict .number ∷ o .reply .verdict .place ∷ o .reply .verdict .earlier
+    ∷ length (o .reply .clears) ∷ length (o .lists .discards) ∷ stencilOf (o .reply .attachments) ∷ []
+
+-- A pass to check, or a submission, which answers the status bytes of textures 0 to 5.
+pub data Do : Type 0 where
+  check : Pass → Do
+  submit : Do
+
+-- The lists that are held, the calls, and what they must answer.
+pub record Row : Type 0 where
+  pub held : Lists
+  pub calls : List Do
+  pub answers : List (List ℕ)
+
+abbrev row : List Pass → List (List ℕ) → Row
+row ps out = record { held = noEntries; calls = map check ps; answers = out }
+
+abbrev rowOf : List Do → List (List ℕ) → Row
+rowOf calls out = record { held = noEntries; calls = calls; answers = out }
+
+abbrev rowFrom : Lists → List Pass → List (List ℕ) → Row
+rowFrom held ps out = record { held = held; calls = map check ps; answers = out }
+
+-- Eight discards of texture 0 among 64, and so many actions.
+abbrev fullOf : ℕ → Lists
+fullOf actions = record {
+  discards = replicate 8 (surfaceAt 0 0 0) ++ replicate 56 (surfaceAt 2 0 0);
+  actions = replicate actions (implicitAt (surfaceAt 2 0 0));
+  clears = [];
+}
+
+abbrev accepted : ℕ → ℕ → List ℕ
+accepted clears discards = 0 ∷ 17 ∷ 17 ∷ clears ∷ discards ∷ 0 ∷ []
+
+abbrev refused : ℕ → ℕ → ℕ → List ℕ
+refused number place earlier = number ∷ place ∷ earlier ∷ 0 ∷ 0 ∷ 0 ∷ []
+
+-- With 64 discards held.
+abbrev refusedHolding : ℕ → ℕ → List ℕ
+refusedHolding number place = number ∷ place ∷ 17 ∷ 0 ∷ 64 ∷ 0 ∷ []
+
+abbrev noRoom : ℕ → List ℕ
+noRoom number = refusedHolding number 17
+
+-- Clear with Discard, Load with Store, Clear with Store.
+abbrev dropped : Pass
+dropped = colors (slot 0 noView 1 1 ∷ [])
+
+abbrev loaded : Pass
+loaded = colors (slot 0 noView 0 0 ∷ [])
+
+abbrev cleared : Pass
+cleared = colors (slot 0 noView 1 0 ∷ [])
+
+abbrev depthCleared : ℕ → Pass
+depthCleared bits = depthStencil 3 (channel 1 0 1 bits) absent
+
+pub rows : List Row
+rows =
+    -- P: depth clear 1.0 and −0.0 accepted, NaN 22
+    row (depthCleared 0x3f80_0000 ∷ []) (accepted 0 0 ∷ [])
+    ∷ row (depthCleared 0x8000_0000 ∷ []) (accepted 0 0 ∷ [])
+    ∷ row (depthCleared 0x7fc0_0000 ∷ []) (refused 22 16 17 ∷ [])
+    -- P: stencil 257 clears to 1
+    ∷ row (depthStencil 4 absent (channel 1 0 1 257) ∷ []) ((0 ∷ 17 ∷ 17 ∷ 0 ∷ 0 ∷ 1 ∷ []) ∷ [])
+    -- P: mip depth 4, slice 3 accepted, 4 gives 38
+    ∷ row (colors (slice 3 ∷ []) ∷ []) (accepted 0 0 ∷ [])
+    ∷ row (colors (slice 4 ∷ []) ∷ []) (refused 38 0 17 ∷ [])
+    -- P: two layers, mask 3 accepted, 4 gives 31
+    ∷ row (pass 3 (slot 7 noView 1 0 ∷ []) noView absent absent ∷ []) (accepted 0 0 ∷ [])
+    ∷ row (pass 4 (slot 7 noView 1 0 ∷ []) noView absent absent ∷ []) (refused 31 17 17 ∷ [])
+    -- P: discard, then load: one clear; discarded twice: two
+    ∷ row (dropped ∷ loaded ∷ []) (accepted 0 1 ∷ accepted 1 0 ∷ [])
+    ∷ row (dropped ∷ dropped ∷ loaded ∷ []) (accepted 0 1 ∷ accepted 0 2 ∷ accepted 2 0 ∷ [])
+    -- P: Clear with Store after a discard: none
+    ∷ row (dropped ∷ cleared ∷ []) (accepted 0 1 ∷ accepted 0 0 ∷ [])
+    -- P: depth Load, stencil Clear, both Discard: one entry
+    ∷ row (depthStencil 5 (channel 0 1 0 0) (channel 1 1 1 0) ∷ []) (accepted 0 1 ∷ [])
+    -- inviting: 35 names the view accepted last, not the first
+    ∷ row (colors (slot 0 noView 1 0 ∷ slot 1 noView 1 0 ∷ slot 2 noView 1 0 ∷ []) ∷ []) (refused 35 2 1 ∷ [])
+    -- inviting: a resolve target's overlap is tested before whether it is renderable
+    ∷ row (colors (slot 9 noView 1 0 ∷ []) ∷ colors (slot 8 11 1 0 ∷ []) ∷ []) (accepted 0 0 ∷ refused 34 8 17 ∷ [])
+    ∷ row (colors (slot 8 9 1 0 ∷ slot 10 11 1 0 ∷ []) ∷ []) (refused 41 9 17 ∷ [])
+    -- depth and stencil that diverge: one discarded, one stored; a load of either needs; Clear with both stored is implicit
+    ∷ rowOf (check (depthStencil 5 (channel 1 1 1 0) (channel 1 0 1 0)) ∷ submit ∷ check (depthStencil 5 (channel 1 0 1 0) (channel 0 1 0 0)) ∷ submit ∷ [])
+    (accepted 0 0 ∷ (0 ∷ 0 ∷ 0 ∷ 0 ∷ 0 ∷ 1 ∷ []) ∷ accepted 0 0 ∷ (0 ∷ 0 ∷ 0 ∷ 0 ∷ 0 ∷ 1 ∷ []) ∷ [])
+    ∷ rowOf (check (depthStencil 5 (channel 1 1 1 0) (channel 0 0 0 0)) ∷ submit ∷ []) (accepted 0 0 ∷ (0 ∷ 0 ∷ 0 ∷ 0 ∷ 0 ∷ 3 ∷ []) ∷ [])
+    -- status: a load of an empty surface is cleared (3); the next submission forgets that (1); a discard empties (0)
+    ∷ rowOf (check loaded ∷ submit ∷ submit ∷ check loaded ∷ submit ∷ check dropped ∷ submit ∷ [])
+    (accepted 0 0 ∷ (3 ∷ 0 ∷ 0 ∷ 0 ∷ 0 ∷ 0 ∷ []) ∷ (1 ∷ 0 ∷ 0 ∷ 0 ∷ 0 ∷ 0 ∷ []) ∷ accepted 0 0 ∷ (1 ∷ 0 ∷ 0 ∷ 0 ∷ 0 ∷ 0 ∷ []) ∷ accepted 0 1 ∷ (0 ∷ 0 ∷ 0 ∷ 0 ∷ 0 ∷ 0 ∷ []) ∷ [])
+    -- a submission empties the list: a load after it returns no clear
+    ∷ rowOf (check dropped ∷ submit ∷ check loaded ∷ submit ∷ [])
+    (accepted 0 1 ∷ (0 ∷ 0 ∷ 0 ∷ 0 ∷ 0 ∷ 0 ∷ []) ∷ accepted 0 0 ∷ (3 ∷ 0 ∷ 0 ∷ 0 ∷ 0 ∷ 0 ∷ []) ∷ [])
+    -- Load with Discard of an empty surface: cleared, then emptied (2); a Clear with Store after it fills (1)
+    ∷ rowOf (check (colors (slot 0 noView 0 1 ∷ slot 1 noView 1 0 ∷ [])) ∷ submit ∷ check cleared ∷ submit ∷ [])
+    (accepted 0 1 ∷ (2 ∷ 1 ∷ 0 ∷ 0 ∷ 0 ∷ 0 ∷ []) ∷ accepted 0 0 ∷ (1 ∷ 1 ∷ 0 ∷ 0 ∷ 0 ∷ 0 ∷ []) ∷ [])
+    -- 49 looks at every step: of 64 discards eight are texture 0's. A new one first needs a 65th; after those eight have left, it leaves 57
+    ∷ rowFrom (fullOf 0) (colors (slot 1 noView 1 1 ∷ slot 0 noView 1 0 ∷ []) ∷ []) (noRoom 49 ∷ [])
+    ∷ rowFrom (fullOf 0) (colors (slot 0 noView 1 0 ∷ slot 1 noView 1 1 ∷ []) ∷ []) (accepted 0 57 ∷ [])
+    -- Load with Discard takes its own off first: eight clears, and 57 again
+    ∷ rowFrom (fullOf 0) (colors (slot 0 noView 0 1 ∷ []) ∷ []) (accepted 8 57 ∷ [])
+    -- 50: a load takes one action and one for each clear; 503 and 1 and 8 are 512
+    ∷ rowFrom (fullOf 503) (loaded ∷ []) (accepted 8 56 ∷ [])
+    ∷ rowFrom (fullOf 504) (loaded ∷ []) (noRoom 50 ∷ [])
+    -- 49 before 50, wherever they happen
+    ∷ rowFrom (fullOf 512) (colors (slot 0 noView 1 0 ∷ []) ∷ []) (noRoom 50 ∷ [])
+    ∷ rowFrom (fullOf 512) (colors (slot 7 noView 0 0 ∷ []) ∷ colors (slot 2 noView 0 0 ∷ []) ∷ []) (noRoom 50 ∷ noRoom 50 ∷ [])
+    ∷ rowFrom (fullOf 512) (colors (slot 1 noView 0 0 ∷ slot 3 noView 1 1 ∷ []) ∷ colors (slot 1 noView 0 1 ∷ []) ∷ []) (refusedHolding 37 1 ∷ noRoom 49 ∷ [])
+    ∷ []
+
+-- ── the test
+
+-- From the state σ.
+abbrev run : List Do → State → List (List ℕ)
+run [] σ = []
+run (check p ∷ rest) σ =
+    let o = checkPass desk p (σ .lists) in
+    says o ∷ run rest (record { lists = o .lists; status = σ .status })
+run (submit ∷ rest) σ =
+    let τ = submitState desk σ in
+    take 6 (τ .status) ∷ run rest τ
+
+-- As many status bytes as there are surfaces, all 0.
+abbrev new : Lists → State
+new held = record { lists = held; status = replicate (surfaceCount desk) 0 }
+
+abbrev sameNumbers : List ℕ → List ℕ → Bool
+sameNumbers [] [] = true
+sameNumbers [] (y ∷ ys) = false
+sameNumbers (x ∷ xs) [] = false
+sameNumbers (x ∷ xs) (y ∷ ys) = eqb x y && sameNumbers xs ys
+
+abbrev sameRows : List (List ℕ) → List (List ℕ) → Bool
+sameRows [] [] = true
+sameRows [] (y ∷ ys) = false
+sameRows (x ∷ xs) [] = false
+sameRows (x ∷ xs) (y ∷ ys) = sameNumbers x y && sameRows xs ys
+
+abbrev allRight : List Row → Bool
+allRight [] = true
+allRight (r ∷ rest) = sameRows (run (r .calls) (new (r .held))) (r .answers) && allRight rest
+
+pub corners : allRight rows ≡ true
+unfolding rows computing
+corners = refl

@@ -1,0 +1,240 @@
+-- A session as its file gives it (document 01, "The session, from one file").
+use Prim.Native.Nat.{ℕ, zero, suc, _+_, _*_}
+use mathlib.Core.List.{List, [], _++_}
+use mathlib.Core.Bool.{Bool, cond}
+use lib.Dec.{eqb}
+use Rattle.definition.specs.Sizes.{headerBytes, textureBytes, viewBytes, passBytes, slotStart, slotBytes, noView}
+use Rattle.definition.specs.Bytes.{u32At, f64At, bit}
+use Rattle.definition.specs.Formats.{mipSize}
+use Rattle.definition.specs.Surfaces.{rangeAt, layersFrom}
+use Rattle.definition.specs.declared.Texture.{Texture}
+use Rattle.definition.specs.declared.View.{View}
+use Rattle.definition.specs.declared.Channel.{Channel}
+use Rattle.definition.specs.declared.Color.{Color}
+use Rattle.definition.specs.declared.Slot.{Slot}
+use Rattle.definition.specs.declared.Surface.{Surface}
+use Rattle.definition.specs.declared.Range.{Range}
+
+pub record Pass : Type 0 where
+  pub colors : ℕ
+  pub mask : ℕ
+  pub ends : ℕ
+  pub depthStencil : ℕ
+  pub depth : Channel
+  pub stencil : Channel
+  pub slot : ℕ → Slot
+
+pub record Session : Type 0 where
+  pub textureCount : ℕ
+  pub viewCount : ℕ
+  pub passCount : ℕ
+  pub maxColors : ℕ
+  pub maxMultiview : ℕ
+  pub flags : ℕ
+  pub texture : ℕ → Texture
+  pub view : ℕ → View
+  pub pass : ℕ → Pass
+
+-- ── the header's fields
+
+abbrev pub textureCount : List ℕ → ℕ
+textureCount s = u32At s 0
+
+abbrev pub textureOffset : List ℕ → ℕ
+textureOffset s = u32At s 4
+
+abbrev pub viewCount : List ℕ → ℕ
+viewCount s = u32At s 8
+
+abbrev pub viewOffset : List ℕ → ℕ
+viewOffset s = u32At s 12
+
+abbrev pub passCount : List ℕ → ℕ
+passCount s = u32At s 16
+
+abbrev pub passOffset : List ℕ → ℕ
+passOffset s = u32At s 20
+
+abbrev pub maxColors : List ℕ → ℕ
+maxColors s = u32At s 24
+
+abbrev pub maxMultiview : List ℕ → ℕ
+maxMultiview s = u32At s 28
+
+abbrev pub flags : List ℕ → ℕ
+flags s = u32At s 32
+
+abbrev pub totalLength : List ℕ → ℕ
+totalLength s = u32At s 36
+
+-- Textures start after the header; views, then passes, follow without a gap.
+abbrev pub viewStart : List ℕ → ℕ
+viewStart s = headerBytes + textureBytes * textureCount s
+
+abbrev pub passStart : List ℕ → ℕ
+passStart s = viewStart s + viewBytes * viewCount s
+
+abbrev pub passEnd : List ℕ → ℕ
+passEnd s = passStart s + passBytes * passCount s
+
+-- ── rows, read where they stand
+
+abbrev pub textureAt : List ℕ → ℕ → Texture
+textureAt s at = record {
+  format = u32At s at;
+  dimension = u32At s (at + 4);
+  width = u32At s (at + 8);
+  height = u32At s (at + 12);
+  depth = u32At s (at + 16);
+  mips = u32At s (at + 20);
+  samples = u32At s (at + 24);
+  usage = u32At s (at + 28);
+}
+
+abbrev pub viewAt : List ℕ → ℕ → View
+viewAt s at = record {
+  texture = u32At s at;
+  dimension = u32At s (at + 4);
+  mip = u32At s (at + 8);
+  mips = u32At s (at + 12);
+  layer = u32At s (at + 16);
+  layers = u32At s (at + 20);
+  usage = u32At s (at + 24);
+  resolvable = u32At s (at + 28);
+}
+
+abbrev pub channelAt : List ℕ → ℕ → Channel
+channelAt s at = record {
+  load = u32At s at;
+  store = u32At s (at + 4);
+  readonly = u32At s (at + 8);
+  given = u32At s (at + 12);
+  clear = u32At s (at + 16);
+}
+
+abbrev pub colorAt : List ℕ → ℕ → Color
+colorAt s at = record { red = f64At s at; green = f64At s (at + 8); blue = f64At s (at + 16); alpha = f64At s (at + 24) }
+
+abbrev pub slotAt : List ℕ → ℕ → Slot
+slotAt s at = record {
+  view = u32At s at;
+  sliced = u32At s (at + 4);
+  slice = u32At s (at + 8);
+  resolve = u32At s (at + 12);
+  load = u32At s (at + 16);
+  store = u32At s (at + 20);
+  clear = colorAt s (at + 24);
+}
+
+abbrev pub passAt : List ℕ → ℕ → Pass
+passAt s at = record {
+  colors = u32At s at;
+  mask = u32At s (at + 4);
+  ends = u32At s (at + 8);
+  depthStencil = u32At s (at + 12);
+  depth = channelAt s (at + 16);
+  stencil = channelAt s (at + 36);
+  slot = λ k. slotAt s (at + slotStart + slotBytes * k);
+}
+
+unfoldable pub session : List ℕ → Session
+session s = record {
+  textureCount = textureCount s;
+  viewCount = viewCount s;
+  passCount = passCount s;
+  maxColors = maxColors s;
+  maxMultiview = maxMultiview s;
+  flags = flags s;
+  texture = λ k. textureAt s (headerBytes + textureBytes * k);
+  view = λ k. viewAt s (viewStart s + viewBytes * k);
+  pass = λ k. passAt s (passStart s + passBytes * k);
+}
+
+-- ── what is derived from the rows
+
+abbrev pub isNone : ℕ → Bool
+isNone v = eqb v noView
+
+-- The four flags.
+abbrev pub strict : Session → Bool
+strict S = bit (S .flags) 0
+
+abbrev pub multiview : Session → Bool
+multiview S = bit (S .flags) 1
+
+abbrev pub selectiveMultiview : Session → Bool
+selectiveMultiview S = bit (S .flags) 2
+
+abbrev pub readOnlyDepthStencil : Session → Bool
+readOnlyDepthStencil S = bit (S .flags) 3
+
+-- W3C "array layer count": a 3D texture has one layer.
+unfoldable pub arrayLayers : Texture → ℕ
+arrayLayers t = cond (eqb (t .dimension) 3) 1 (t .depth)
+
+abbrev pub surfacesIn : Texture → ℕ
+surfacesIn t = t .mips * arrayLayers t
+
+-- The number of surfaces of the textures before k.
+unfoldable pub surfacesBefore : Session → ℕ → ℕ
+surfacesBefore S zero = 0
+surfacesBefore S (suc k) = surfacesBefore S k + surfacesIn (S .texture k)
+
+abbrev pub surfaceCount : Session → ℕ
+surfaceCount S = surfacesBefore S (S .textureCount)
+
+-- A surface's place among the status bytes: by texture, mip, layer.
+abbrev pub surfaceIndex : Session → Surface → ℕ
+surfaceIndex S s = surfacesBefore S (s .texture) + s .mip * arrayLayers (S .texture (s .texture)) + s .layer
+
+-- All surfaces in that order: those of a texture's first n mips of so many layers each, and of the first n textures.
+abbrev pub mipSurfaces : ℕ → ℕ → ℕ → List Surface
+mipSurfaces t count zero = []
+mipSurfaces t count (suc n) = mipSurfaces t count n ++ layersFrom t n 0 count
+
+abbrev pub textureSurfaces : Session → ℕ → List Surface
+textureSurfaces S zero = []
+textureSurfaces S (suc n) = textureSurfaces S n ++ mipSurfaces n (arrayLayers (S .texture n)) (S .texture n .mips)
+
+abbrev pub surfacesOf : Session → List Surface
+surfacesOf S = textureSurfaces S (S .textureCount)
+
+-- What a view takes from its texture.
+abbrev pub formatOf : Session → View → ℕ
+formatOf S v = S .texture (v .texture) .format
+
+abbrev pub samplesOf : Session → View → ℕ
+samplesOf S v = S .texture (v .texture) .samples
+
+abbrev pub widthOf : Session → View → ℕ
+widthOf S v = mipSize (S .texture (v .texture) .width) (v .mip)
+
+abbrev pub heightOf : Session → View → ℕ
+heightOf S v = mipSize (S .texture (v .texture) .height) (v .mip)
+
+abbrev pub depthOf : Session → View → ℕ
+depthOf S v = mipSize (S .texture (v .texture) .depth) (v .mip)
+
+-- The view's surfaces.
+abbrev pub viewRange : View → Range
+viewRange v = rangeAt (v .texture) (v .mip) (v .mips) (v .layer) (v .layers)
+
+-- The view dimensions that the checks ask for.
+abbrev pub isD2 : View → Bool
+isD2 v = eqb (v .dimension) 2
+
+abbrev pub isD2Array : View → Bool
+isD2Array v = eqb (v .dimension) 3
+
+abbrev pub isD3 : View → Bool
+isD3 v = eqb (v .dimension) 6
+
+-- The usage bits 4, 16 and 32 (W3C GPUTextureUsage TEXTURE_BINDING, RENDER_ATTACHMENT, TRANSIENT_ATTACHMENT).
+abbrev pub textureBinding : View → Bool
+textureBinding v = bit (v .usage) 2
+
+abbrev pub renderAttachment : View → Bool
+renderAttachment v = bit (v .usage) 4
+
+abbrev pub transient : View → Bool
+transient v = bit (v .usage) 5

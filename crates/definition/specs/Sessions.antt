@@ -1,0 +1,209 @@
+-- Whole sessions and what `deskcheck` prints of them, computed. The answers are document 01's, or worked out by hand as each comment shows.
+use Prim.Native.Nat.{ℕ}
+use mathlib.Core.Path.{_≡_, refl}
+use mathlib.Core.List.{List, [], _∷_, map}
+use mathlib.Core.Bool.{Bool, true, false}
+use lib.ListN.{length, replicate}
+use Rattle.definition.specs.Sizes.{noView}
+use Rattle.definition.specs.Surfaces.{surfaceAt, rangeAt}
+use Rattle.definition.specs.Session.{session}
+use Rattle.definition.specs.Verdict.{refusedAt}
+use Rattle.definition.specs.Calls.{noEntries, lentRight, passCall}
+use Rattle.definition.specs.declared.Surface.{Surface}
+use Rattle.definition.specs.declared.Range.{Range}
+use Rattle.definition.specs.declared.MemoryInitKind.the-variants.{NeedsInitializedMemory}
+use Rattle.definition.specs.Program.{deskcheck}
+use Rattle.definition.specs.Computing.{computing}
+use Rattle.definition.specs.Files.{words, texture, view, channel, absent, sliceSlot, slot, emptySlot, passOf, colors, depthStencil, file}
+
+-- An accepted pass of size n × n: clears returned, discards listed. A refused one: number, place, earlier place, discards as found.
+abbrev accepted : (pass n samples clears discards : ℕ) → List ℕ
+accepted pass n samples clears discards = pass ∷ 0 ∷ 17 ∷ 17 ∷ n ∷ n ∷ samples ∷ clears ∷ discards ∷ []
+
+abbrev refused : (pass number place earlier discards : ℕ) → List ℕ
+refused pass number place earlier discards = pass ∷ number ∷ place ∷ earlier ∷ 0 ∷ 0 ∷ 0 ∷ 0 ∷ discards ∷ []
+
+-- Document 01's example of 1112 bytes: Clear with Discard, then Load with Store, in one buffer.
+abbrev pub example : List ℕ
+example = file 8 0 0 (texture 3 2 4 1 1 1 16 ∷ []) (view 0 2 1 1 16 0 ∷ []) (colors (slot 0 1 1 ∷ []) ∷ colors (slot 0 0 0 ∷ []) ∷ [])
+
+example-length : length example ≡ 1112
+example-length = refl
+
+printed : deskcheck example ≡ ((0 ∷ 0 ∷ 17 ∷ 17 ∷ 4 ∷ 4 ∷ 1 ∷ 0 ∷ 1 ∷ []) ∷ (1 ∷ 0 ∷ 17 ∷ 17 ∷ 4 ∷ 4 ∷ 1 ∷ 1 ∷ 0 ∷ []) ∷ [])
+unfolding computing
+printed = refl
+
+-- Every expected answer, as one list of sessions and one of their lines.
+abbrev all : List (List ℕ) → List (List (List ℕ))
+all [] = []
+all (s ∷ rest) = deskcheck s ∷ all rest
+
+-- A colour texture of 4 × 4 pixels and one sample, and a view of the whole of a one-layer texture t.
+abbrev plain : List ℕ
+plain = texture 3 2 4 1 1 1 16
+
+abbrev whole : ℕ → List ℕ
+whole t = view t 2 1 1 16 0
+
+-- 1: an empty file. 2: 65 textures. 3: three samples. 4: two layers of one. And a session without passes prints nothing.
+refused-sessions : all (
+    []
+    ∷ words (65 ∷ 40 ∷ 0 ∷ 40 ∷ 0 ∷ 40 ∷ 8 ∷ 0 ∷ 0 ∷ 40 ∷ [])
+    ∷ file 8 0 0 (texture 3 2 4 1 1 3 16 ∷ []) [] []
+    ∷ file 8 0 0 (plain ∷ []) (view 0 3 1 2 16 0 ∷ []) []
+    ∷ file 8 0 0 (plain ∷ []) (whole 0 ∷ []) []
+    ∷ [])
+    ≡ (((1 ∷ []) ∷ []) ∷ ((2 ∷ []) ∷ []) ∷ ((3 ∷ []) ∷ []) ∷ ((4 ∷ []) ∷ []) ∷ [] ∷ [])
+unfolding computing
+refused-sessions = refl
+
+-- Strict, at most four colours; texture 1 is transient. Load 7 is a 5; five slots a 10, empty or not; DontCare an 11 at slot 0; Clear with Store of the
+-- transient view in slot 1 a 12; Clear with Discard of it is accepted and listed.
+color-operations : deskcheck (file 4 0 1 (plain ∷ texture 3 2 4 1 1 1 48 ∷ []) (whole 0 ∷ view 1 2 1 1 48 0 ∷ [])
+    (colors (slot 0 7 0 ∷ [])
+    ∷ colors (emptySlot ∷ emptySlot ∷ emptySlot ∷ emptySlot ∷ emptySlot ∷ [])
+    ∷ colors (slot 0 2 0 ∷ [])
+    ∷ colors (emptySlot ∷ slot 1 1 0 ∷ [])
+    ∷ colors (slot 1 1 1 ∷ [])
+    ∷ []))
+    ≡ (refused 0 5 17 17 0 ∷ refused 1 10 17 17 0 ∷ refused 2 11 0 17 0 ∷ refused 3 12 1 17 0 ∷ accepted 4 4 1 0 1 ∷ [])
+unfolding computing
+color-operations = refl
+
+-- View 0 is of a colour format (13). View 1 is transient: depth Load with Discard (14), depth read-only without operations (15), stencil Clear with Store
+-- after a lawful depth (16), stencil read-only without operations (17). View 2: read-only depth with a load (18), with a store (19).
+transient-and-read-only : deskcheck (file 8 0 1 (plain ∷ texture 23 2 4 1 1 1 48 ∷ texture 23 2 4 1 1 1 16 ∷ []) (whole 0 ∷ view 1 2 1 1 48 0 ∷ whole 2 ∷ [])
+    (depthStencil 0 absent absent
+    ∷ depthStencil 1 (channel 0 1 0 0 0) absent
+    ∷ depthStencil 1 (channel 3 2 1 0 0) absent
+    ∷ depthStencil 1 (channel 1 1 0 1 0) (channel 1 0 0 1 0)
+    ∷ depthStencil 1 (channel 1 1 0 1 0) (channel 3 2 1 0 0)
+    ∷ depthStencil 2 (channel 0 2 1 0 0) absent
+    ∷ depthStencil 2 (channel 3 0 1 0 0) absent
+    ∷ []))
+    ≡ (refused 0 13 16 17 0 ∷ refused 1 14 16 17 0 ∷ refused 2 15 16 17 0 ∷ refused 3 16 16 17 0 ∷ refused 4 17 16 17 0 ∷ refused 5 18 16 17 0
+    ∷ refused 6 19 16 17 0 ∷ [])
+unfolding computing
+transient-and-read-only = refl
+
+-- View 0 has both aspects: no depth load (20), Clear without a value (21), with NaN (22), DontCare (23), no store (24). View 1 is stencil8 with a depth
+-- load (25), view 2 depth24plus with a stencil store (26). Depth Load with Store, stencil Clear with Discard: accepted, and nothing is listed.
+channels : deskcheck (file 8 0 1 (texture 23 2 4 1 1 1 16 ∷ texture 20 2 4 1 1 1 16 ∷ texture 22 2 4 1 1 1 16 ∷ []) (whole 0 ∷ whole 1 ∷ whole 2 ∷ [])
+    (depthStencil 0 absent absent
+    ∷ depthStencil 0 (channel 1 0 0 0 0) absent
+    ∷ depthStencil 0 (channel 1 0 0 1 0x7fc0_0000) absent
+    ∷ depthStencil 0 (channel 2 0 0 0 0) absent
+    ∷ depthStencil 0 (channel 0 2 0 0 0) absent
+    ∷ depthStencil 1 (channel 0 2 0 0 0) absent
+    ∷ depthStencil 2 (channel 0 0 0 0 0) (channel 3 0 0 0 0)
+    ∷ depthStencil 0 (channel 0 0 0 0 0) (channel 1 1 0 1 257)
+    ∷ []))
+    ≡ (refused 0 20 16 17 0 ∷ refused 1 21 16 17 0 ∷ refused 2 22 16 17 0 ∷ refused 3 23 16 17 0 ∷ refused 4 24 16 17 0 ∷ refused 5 25 16 17 0
+    ∷ refused 6 26 16 17 0 ∷ accepted 7 4 1 0 0 ∷ [])
+unfolding computing
+channels = refl
+
+-- MULTIVIEW with at most two views. Views of two, three and (Cube) six layers, and of one: a Cube of six layers (30), three layers first (33), two and then
+-- one (31 at slot 1). Two layers with mask 4 (the mask's 31), 2 (47: not full), 3 (accepted). Without the flag two layers are a 32.
+multiview-passes : all (
+    file 8 2 3 (texture 3 2 4 6 1 1 16 ∷ plain ∷ []) (view 0 3 1 2 16 0 ∷ view 0 3 1 3 16 0 ∷ view 0 4 1 6 16 0 ∷ whole 1 ∷ [])
+    (colors (slot 2 1 0 ∷ [])
+    ∷ colors (slot 1 1 0 ∷ [])
+    ∷ colors (slot 0 1 0 ∷ slot 3 1 0 ∷ [])
+    ∷ passOf 4 0 noView absent absent (slot 0 1 0 ∷ [])
+    ∷ passOf 2 0 noView absent absent (slot 0 1 0 ∷ [])
+    ∷ passOf 3 0 noView absent absent (slot 0 1 0 ∷ [])
+    ∷ [])
+    ∷ file 8 2 1 (texture 3 2 4 2 1 1 16 ∷ []) (view 0 3 1 2 16 0 ∷ []) (colors (slot 0 1 0 ∷ []) ∷ [])
+    ∷ [])
+    ≡ ((refused 0 30 0 17 0 ∷ refused 1 33 0 17 0 ∷ refused 2 31 1 17 0 ∷ refused 3 31 17 17 0 ∷ refused 4 47 17 17 0 ∷ accepted 5 4 1 0 0 ∷ [])
+    ∷ (refused 0 32 0 17 0 ∷ []) ∷ [])
+unfolding computing
+multiview-passes = refl
+
+-- View 3 lacks usage 16 (34). Depth and view 0 are 8 × 8, view 1 is 4 × 4: 35 at slot 1 names slot 0, and at slot 0 the depth-stencil view. Four samples,
+-- then one: 36.
+sizes-and-samples : deskcheck (file 8 0 1
+    (texture 3 2 8 1 1 1 16 ∷ plain ∷ texture 3 2 8 1 1 4 16 ∷ texture 3 2 8 1 1 1 20 ∷ texture 22 2 8 1 1 1 16 ∷ [])
+    (whole 0 ∷ whole 1 ∷ whole 2 ∷ view 3 2 1 1 4 0 ∷ whole 4 ∷ [])
+    (colors (slot 3 1 0 ∷ [])
+    ∷ passOf 0 0 4 (channel 1 0 0 1 0) absent (slot 0 1 0 ∷ slot 1 1 0 ∷ [])
+    ∷ passOf 0 0 4 (channel 1 0 0 1 0) absent (slot 1 1 0 ∷ [])
+    ∷ colors (slot 2 1 0 ∷ slot 0 1 0 ∷ [])
+    ∷ []))
+    ≡ (refused 0 34 0 17 0 ∷ refused 1 35 1 0 0 ∷ refused 2 35 0 16 0 ∷ refused 3 36 1 0 0 ∷ [])
+unfolding computing
+sizes-and-samples = refl
+
+-- A depth format in a colour slot (37). View 2 is 3D with four slices: no slice (39), slice 4 (38). A slice for a D2 view (40). The same view twice (41 at
+-- slot 1); two slices of one mip are apart.
+color-views : deskcheck (file 8 0 1 (plain ∷ texture 22 2 4 1 1 1 16 ∷ texture 3 3 4 4 1 1 16 ∷ []) (whole 0 ∷ whole 1 ∷ view 2 6 1 1 16 0 ∷ [])
+    (colors (slot 1 1 0 ∷ [])
+    ∷ colors (slot 2 1 0 ∷ [])
+    ∷ colors (sliceSlot 2 1 4 noView 1 0 ∷ [])
+    ∷ colors (sliceSlot 0 1 0 noView 1 0 ∷ [])
+    ∷ colors (slot 0 1 0 ∷ slot 0 1 0 ∷ [])
+    ∷ colors (sliceSlot 2 1 0 noView 1 0 ∷ sliceSlot 2 1 1 noView 1 0 ∷ [])
+    ∷ []))
+    ≡ (refused 0 37 0 17 0 ∷ refused 1 39 0 17 0 ∷ refused 2 38 0 17 0 ∷ refused 3 40 0 17 0 ∷ refused 4 41 1 17 0 ∷ accepted 5 4 1 0 0 ∷ [])
+unfolding computing
+color-views = refl
+
+-- View 0 has four samples, the others one. Source of one sample (42), formats 3 and 5 (43), a target that is not resolvable (44), transient (45), 3D (48),
+-- the source itself (41 at place 8); and one that is accepted, with the source's samples.
+resolve-targets : deskcheck (file 8 0 1
+    (texture 3 2 4 1 1 4 16 ∷ plain ∷ texture 5 2 4 1 1 1 16 ∷ texture 3 3 4 4 1 1 16 ∷ texture 3 2 4 1 1 1 48 ∷ [])
+    (whole 0 ∷ view 1 2 1 1 16 1 ∷ view 2 2 1 1 16 1 ∷ view 3 6 1 1 16 1 ∷ view 4 2 1 1 48 1 ∷ whole 1 ∷ [])
+    (colors (sliceSlot 2 0 0 1 1 0 ∷ [])
+    ∷ colors (sliceSlot 0 0 0 2 1 0 ∷ [])
+    ∷ colors (sliceSlot 0 0 0 5 1 0 ∷ [])
+    ∷ colors (sliceSlot 0 0 0 4 1 0 ∷ [])
+    ∷ colors (sliceSlot 0 0 0 3 1 0 ∷ [])
+    ∷ colors (sliceSlot 0 0 0 0 1 0 ∷ [])
+    ∷ colors (sliceSlot 0 0 0 1 1 0 ∷ [])
+    ∷ []))
+    ≡ (refused 0 42 8 17 0 ∷ refused 1 43 8 17 0 ∷ refused 2 44 8 17 0 ∷ refused 3 45 8 17 0 ∷ refused 4 48 8 17 0 ∷ refused 5 41 8 17 0
+    ∷ accepted 6 4 4 0 0 ∷ [])
+unfolding computing
+resolve-targets = refl
+
+-- Buffers: no attachment (46); a discard, and its buffer ends; a load after that returns nothing. A discard, then Load with Discard: one clear, and the
+-- surface is listed again. Flag 2 is a 5 and ends nothing, so that the next load returns it.
+buffers : deskcheck (file 8 0 1 (plain ∷ []) (whole 0 ∷ [])
+    (colors []
+    ∷ passOf 0 1 noView absent absent (slot 0 1 1 ∷ [])
+    ∷ colors (slot 0 0 0 ∷ [])
+    ∷ colors (slot 0 1 1 ∷ [])
+    ∷ colors (slot 0 0 1 ∷ [])
+    ∷ passOf 0 2 noView absent absent (slot 0 1 1 ∷ [])
+    ∷ colors (slot 0 0 0 ∷ [])
+    ∷ []))
+    ≡ (refused 0 46 17 17 0 ∷ accepted 1 4 1 0 1 ∷ accepted 2 4 1 0 0 ∷ accepted 3 4 1 0 1 ∷ accepted 4 4 1 1 1 ∷ refused 5 5 17 17 1 ∷ accepted 6 4 1 1 0 ∷ [])
+unfolding computing
+buffers = refl
+
+-- A pass number at the count is refused as 5, place 17.
+past-the-last : passCall (session example) 2 noEntries .reply .verdict ≡ refusedAt 5 17
+unfolding computing
+past-the-last = refl
+
+-- 6: what is lent beside the example, whose one surface is (0, 0, 0). One status byte of 3 is right, 4 is not; 64 discards are right, 65 and a surface of
+-- mip 1 are not; a range of the one surface is right, an empty one and one of two layers are not; 80 clears are right, 81 are not.
+abbrev lent : List Surface → List Range → List Surface → ℕ → Bool
+lent discards ranges clears byte = lentRight (session example) (record {
+  lists = record { discards = discards; actions = map (λ r. record { range = r; kind = NeedsInitializedMemory }) ranges; clears = clears };
+  status = byte ∷ [];
+})
+
+abbrev one : Surface
+one = surfaceAt 0 0 0
+
+lent-state :
+    (lent [] [] [] 3 ∷ lent [] [] [] 4
+    ∷ lent (replicate 64 one) [] [] 0 ∷ lent (replicate 65 one) [] [] 0 ∷ lent (surfaceAt 0 1 0 ∷ []) [] [] 0
+    ∷ lent [] (rangeAt 0 0 1 0 1 ∷ []) [] 0 ∷ lent [] (rangeAt 0 0 1 0 0 ∷ []) [] 0 ∷ lent [] (rangeAt 0 0 1 0 2 ∷ []) [] 0
+    ∷ lent [] [] (replicate 80 one) 0 ∷ lent [] [] (replicate 81 one) 0 ∷ [])
+    ≡ (true ∷ false ∷ true ∷ false ∷ false ∷ true ∷ false ∷ false ∷ true ∷ false ∷ [])
+unfolding computing
+lent-state = refl
