@@ -1,0 +1,221 @@
+-- Laws of what is said of "the first n": each definition one turn further, what stays once it is refused, and what holds of each.
+use mathlib.Core.Path.{_≡_, refl, sym, ap, subst, _∙_}
+use mathlib.Core.Bool.{Bool, true, false, not, _&&_, _||_, cond}
+use mathlib.Core.List.{List, [], _++_}
+use Prim.Native.Nat.{ℕ, zero, suc, _+_, _-_, _<_, _≤_}
+use native.Mathlib.Omega.{arith}
+use native.Mathlib.Numerals.{add-one}
+use lib.Dec.{leb, eqb}
+use borrow.Author.Tests.{eqb-true, eqb-false, leb-true, leb-false}
+use lib.ListN.{length, drop, getD}
+use Rattle.definition.specs.Bytes.{bit}
+use Rattle.definition.specs.Surfaces.{layersFrom}
+use Rattle.definition.specs.Session.{Session, Pass, arrayLayers, surfacesIn, surfacesBefore, mipSurfaces, textureSurfaces}
+use Rattle.definition.specs.Verdict.{isFine, _then_}
+use Rattle.definition.specs.Readable.{textureRight, texturesRead, bitsBelow, viewRight, viewsRead, slotReads, slotsRead}
+use Rattle.definition.specs.Check.{slotOps, colorOps, slotTakes, takenBefore, slotStep, nextSlot, slotSteps}
+use Rattle.definition.specs.Attachments.{slotPart, slotParts}
+use Rattle.definition.specs.Calls.{bytesRight}
+use Rattle.definition.specs.declared.Verdict.{Verdict}
+use Rattle.definition.specs.declared.Progress.{Progress}
+use Rattle.laws.proofs.Tests.{and-left, and-right}
+use Rattle.laws.proofs.Verdicts.{then-left, then-right, then-stop}
+use Rattle.laws.proofs.Lists.{drop-turn}
+
+-- ── any fold
+
+-- What a turn no longer changes, no later turn changes.
+pub stays : {A : Type 0} (P : A → Type 0) (f : ℕ → A) → ((n : ℕ) → P (f n) → f (suc n) ≡ f n) → (k n : ℕ) → k ≤ n → P (f k) → f n ≡ f k
+stays P f turn k zero h p = ap f (let e : zero ≡ k = omega arith in e)
+stays {A} P f turn k (suc n) h p = go (leb k n) refl (λ l. stays P f turn k n l p)
+  where
+    go : (b : Bool) → leb k n ≡ b → (k ≤ n → f n ≡ f k) → f (suc n) ≡ f k
+    go true e ih = let i : f n ≡ f k = ih (leb-true k n e) in turn n (subst P (sym i) p) ∙ i
+    go false e ih = ap f (let z : suc n ≡ k = omega (arith, leb-false k n e) in z)
+
+-- A conjunction of tests: once it fails it fails at the end, and where it holds each test holds.
+module _ (f g : ℕ → Bool) (turn : (n : ℕ) → f (suc n) ≡ (f n && g n)) where
+  pub and-stops : (k n : ℕ) → k ≤ n → f k ≡ false → f n ≡ false
+  and-stops k n h e = stays (λ b. b ≡ false) f (λ m z. turn m ∙ ap (λ b. b && g m) z ∙ sym z) k n h e ∙ e
+
+  pub and-each : (n : ℕ) → f n ≡ true → (i : ℕ) → i < n → g i ≡ true
+  and-each zero h i l = absurd (omega arith)
+  and-each (suc n) h i l = go (eqb i n) refl (λ a. and-each n a i)
+    where
+      both : (f n && g n) ≡ true
+      both = sym (turn n) ∙ h
+
+      go : (b : Bool) → eqb i n ≡ b → (f n ≡ true → i < n → g i ≡ true) → g i ≡ true
+      go true e ih = ap g (eqb-true i n e) ∙ and-right (f n) (g n) both
+      go false e ih = ih (and-left (f n) (g n) both) (omega (arith, eqb-false i n e))
+
+-- A chain of verdicts: what refuses first is the answer, and where it is fine each verdict is.
+module _ (f g : ℕ → Verdict) (turn : (n : ℕ) → f (suc n) ≡ (f n then g n)) where
+  pub then-stops : (k n : ℕ) → k ≤ n → isFine (f k) ≡ false → f n ≡ f k
+  then-stops k n h e = stays (λ v. isFine v ≡ false) f (λ m z. turn m ∙ then-stop (f m) (g m) z) k n h e
+
+  pub then-each : (n : ℕ) → isFine (f n) ≡ true → (i : ℕ) → i < n → isFine (g i) ≡ true
+  then-each zero h i l = absurd (omega arith)
+  then-each (suc n) h i l = go (eqb i n) refl (λ a. then-each n a i)
+    where
+      both : isFine (f n then g n) ≡ true
+      both = ap isFine (sym (turn n)) ∙ h
+
+      go : (b : Bool) → eqb i n ≡ b → (isFine (f n) ≡ true → i < n → isFine (g i) ≡ true) → isFine (g i) ≡ true
+      go true e ih = ap (λ j. isFine (g j)) (eqb-true i n e) ∙ then-right (f n) (g n) both
+      go false e ih = ih (then-left (f n) (g n) both) (omega (arith, eqb-false i n e))
+
+-- ── the session's rows: 3 and 4
+
+pub textures-none : (S : Session) → texturesRead S 0 ≡ true
+unfolding texturesRead
+textures-none S = refl
+
+pub textures-turn : (S : Session) (n : ℕ) → texturesRead S (n + 1) ≡ (texturesRead S n && textureRight (S .texture n))
+unfolding texturesRead
+textures-turn S n = rw add-one
+
+textures-suc : (S : Session) (n : ℕ) → texturesRead S (suc n) ≡ (texturesRead S n && textureRight (S .texture n))
+unfolding texturesRead
+textures-suc S n = refl
+
+pub textures-stop : (S : Session) (k n : ℕ) → k ≤ n → texturesRead S k ≡ false → texturesRead S n ≡ false
+textures-stop S = and-stops (texturesRead S) (λ n. textureRight (S .texture n)) (textures-suc S)
+
+pub textures-each : (S : Session) (n : ℕ) → texturesRead S n ≡ true → (i : ℕ) → i < n → textureRight (S .texture i) ≡ true
+textures-each S = and-each (texturesRead S) (λ n. textureRight (S .texture n)) (textures-suc S)
+
+pub views-none : (S : Session) → viewsRead S 0 ≡ true
+unfolding viewsRead
+views-none S = refl
+
+pub views-turn : (S : Session) (n : ℕ) → viewsRead S (n + 1) ≡ (viewsRead S n && viewRight S (S .view n))
+unfolding viewsRead
+views-turn S n = rw add-one
+
+views-suc : (S : Session) (n : ℕ) → viewsRead S (suc n) ≡ (viewsRead S n && viewRight S (S .view n))
+unfolding viewsRead
+views-suc S n = refl
+
+pub views-stop : (S : Session) (k n : ℕ) → k ≤ n → viewsRead S k ≡ false → viewsRead S n ≡ false
+views-stop S = and-stops (viewsRead S) (λ n. viewRight S (S .view n)) (views-suc S)
+
+pub views-each : (S : Session) (n : ℕ) → viewsRead S n ≡ true → (i : ℕ) → i < n → viewRight S (S .view i) ≡ true
+views-each S = and-each (viewsRead S) (λ n. viewRight S (S .view n)) (views-suc S)
+
+pub bits-none : (a b : ℕ) → bitsBelow a b 0 ≡ true
+unfolding bitsBelow
+bits-none a b = refl
+
+pub bits-turn : (a b n : ℕ) → bitsBelow a b (n + 1) ≡ (bitsBelow a b n && (not (bit a n) || bit b n))
+unfolding bitsBelow
+bits-turn a b n = rw add-one
+
+-- ── the slots of a pass
+
+pub slots-read-none : (S : Session) (p : Pass) → slotsRead S p 0 ≡ true
+unfolding slotsRead
+slots-read-none S p = refl
+
+pub slots-read-turn : (S : Session) (p : Pass) (n : ℕ) → slotsRead S p (n + 1) ≡ (slotsRead S p n && slotReads S (p .slot n))
+unfolding slotsRead
+slots-read-turn S p n = rw add-one
+
+slots-read-suc : (S : Session) (p : Pass) (n : ℕ) → slotsRead S p (suc n) ≡ (slotsRead S p n && slotReads S (p .slot n))
+unfolding slotsRead
+slots-read-suc S p n = refl
+
+pub slots-read-stop : (S : Session) (p : Pass) (k n : ℕ) → k ≤ n → slotsRead S p k ≡ false → slotsRead S p n ≡ false
+slots-read-stop S p = and-stops (slotsRead S p) (λ n. slotReads S (p .slot n)) (slots-read-suc S p)
+
+pub slots-read-each : (S : Session) (p : Pass) (n : ℕ) → slotsRead S p n ≡ true → (i : ℕ) → i < n → slotReads S (p .slot i) ≡ true
+slots-read-each S p = and-each (slotsRead S p) (λ n. slotReads S (p .slot n)) (slots-read-suc S p)
+
+pub color-ops-turn : (S : Session) (p : Pass) (n : ℕ) → colorOps S p (n + 1) ≡ (colorOps S p n then slotOps S (p .slot n) n)
+unfolding colorOps
+color-ops-turn S p n = rw add-one
+
+color-ops-suc : (S : Session) (p : Pass) (n : ℕ) → colorOps S p (suc n) ≡ (colorOps S p n then slotOps S (p .slot n) n)
+unfolding colorOps
+color-ops-suc S p n = refl
+
+pub color-ops-stop : (S : Session) (p : Pass) (k n : ℕ) → k ≤ n → isFine (colorOps S p k) ≡ false → colorOps S p n ≡ colorOps S p k
+color-ops-stop S p = then-stops (colorOps S p) (λ n. slotOps S (p .slot n) n) (color-ops-suc S p)
+
+pub color-ops-each : (S : Session) (p : Pass) (n : ℕ) → isFine (colorOps S p n) ≡ true → (i : ℕ) → i < n → isFine (slotOps S (p .slot i) i) ≡ true
+color-ops-each S p = then-each (colorOps S p) (λ n. slotOps S (p .slot n) n) (color-ops-suc S p)
+
+pub taken-none : (S : Session) (p : Pass) → takenBefore S p 0 ≡ []
+unfolding takenBefore
+taken-none S p = refl
+
+pub taken-turn : (S : Session) (p : Pass) (n : ℕ) → takenBefore S p (n + 1) ≡ slotTakes S (p .slot n) ++ takenBefore S p n
+unfolding takenBefore
+taken-turn S p n = rw add-one
+
+pub parts-none : (S : Session) (p : Pass) → slotParts S p 0 ≡ []
+unfolding slotParts
+parts-none S p = refl
+
+pub parts-turn : (S : Session) (p : Pass) (n : ℕ) → slotParts S p (n + 1) ≡ slotParts S p n ++ slotPart S (p .slot n)
+unfolding slotParts
+parts-turn S p n = rw add-one
+
+-- A slot's step; once a pass is refused, the steps change nothing.
+pub steps-none : (S : Session) (p : Pass) (a : Progress) → slotSteps S p a 0 ≡ a
+unfolding slotSteps
+steps-none S p a = refl
+
+pub steps-turn : (S : Session) (p : Pass) (a : Progress) (n : ℕ) → slotSteps S p a (n + 1) ≡ nextSlot S p n (slotSteps S p a n)
+unfolding slotSteps
+steps-turn S p a n = rw add-one
+
+pub next-fine : (S : Session) (p : Pass) (k : ℕ) (a : Progress) → isFine (a .verdict) ≡ true → nextSlot S p k a ≡ slotStep S p k (a .seen)
+unfolding nextSlot
+next-fine S p k a h = ap (λ b. cond b (slotStep S p k (a .seen)) a) h
+
+pub next-refused : (S : Session) (p : Pass) (k : ℕ) (a : Progress) → isFine (a .verdict) ≡ false → nextSlot S p k a ≡ a
+unfolding nextSlot
+next-refused S p k a h = ap (λ b. cond b (slotStep S p k (a .seen)) a) h
+
+pub steps-stop : (S : Session) (p : Pass) (a : Progress) (k n : ℕ) → k ≤ n → isFine (slotSteps S p a k .verdict) ≡ false → slotSteps S p a n ≡ slotSteps S p a k
+unfolding slotSteps
+steps-stop S p a = stays (λ b. isFine (b .verdict) ≡ false) (slotSteps S p a) (λ n. next-refused S p n (slotSteps S p a n))
+
+-- ── surfaces
+
+pub before-none : (S : Session) → surfacesBefore S 0 ≡ 0
+unfolding surfacesBefore
+before-none S = refl
+
+pub before-turn : (S : Session) (n : ℕ) → surfacesBefore S (n + 1) ≡ surfacesBefore S n + surfacesIn (S .texture n)
+unfolding surfacesBefore
+before-turn S n = rw add-one
+
+-- Later textures have later surfaces.
+pub before-grows : (S : Session) (k n : ℕ) → k ≤ n → surfacesBefore S k ≤ surfacesBefore S n
+unfolding surfacesBefore
+before-grows S k zero h = let e : k ≡ zero = omega arith in rw e (omega arith)
+before-grows S k (suc n) h = go (leb k n) refl (before-grows S k n)
+  where
+    go : (b : Bool) → leb k n ≡ b → (k ≤ n → surfacesBefore S k ≤ surfacesBefore S n) → surfacesBefore S k ≤ surfacesBefore S (suc n)
+    go true e ih = omega (arith, ih (leb-true k n e))
+    go false e ih = let z : k ≡ suc n = omega (arith, leb-false k n e) in rw z (omega arith)
+
+pub mips-turn : (t count n : ℕ) → mipSurfaces t count (n + 1) ≡ mipSurfaces t count n ++ layersFrom t n 0 count
+mips-turn t count n = rw add-one
+
+pub texture-surfaces-turn : (S : Session) (n : ℕ)
+    → textureSurfaces S (n + 1) ≡ textureSurfaces S n ++ mipSurfaces n (arrayLayers (S .texture n)) (S .texture n .mips)
+texture-surfaces-turn S n = rw add-one
+
+-- ── the rest of a list
+
+-- One turn of a loop that has n - k to go.
+pub to-go : (n k : ℕ) → k < n → n - k ≡ suc (n - (k + 1))
+to-go n k h = omega arith
+
+-- The status bytes of number 6.
+pub bytes-turn : (bs : List ℕ) (n i : ℕ) → i < n → n ≤ length bs
+    → bytesRight (n - i) (drop i bs) ≡ (leb (getD bs i 0) 3 && bytesRight (n - (i + 1)) (drop (i + 1) bs))
+bytes-turn bs n i h g = ap (λ m. bytesRight m (drop i bs)) (to-go n i h) ∙ ap (bytesRight (suc (n - (i + 1)))) (drop-turn bs 0 i (omega arith))

@@ -1,0 +1,55 @@
+-- Laws of number 6 of records: a list is right where its parts are, and a surface of the session is a range of it.
+use mathlib.Core.Path.{_≡_, refl, ap, _∙_}
+use mathlib.Core.Bool.{Bool, true, false, _&&_, cond}
+use mathlib.Core.List.{List, [], _∷_, _++_, map}
+use native.Mathlib.Omega.{arith}
+use Rattle.definition.specs.Surfaces.{firstOf, onlyRange}
+use Rattle.definition.specs.Session.{Session}
+use Rattle.definition.specs.MemoryInit.{implicitAt, retain}
+use Rattle.definition.specs.Calls.{surfaceRight, rangeRight, surfacesRight, actionsRight}
+use Rattle.definition.specs.declared.Surface.{Surface}
+use Rattle.definition.specs.declared.Range.{Range}
+use Rattle.definition.specs.declared.Action.{Action}
+use Rattle.laws.specs.Surfaces.{Inside}
+use Rattle.laws.proofs.Tests.{and-left, and-right, and-on}
+use Rattle.laws.proofs.Surfaces.{surface-inside, inside-surface, range-inside, inside-range}
+use Rattle.laws.proofs.Views.{range-first}
+
+and-assoc : (a b c : Bool) → (a && (b && c)) ≡ ((a && b) && c)
+and-assoc true b c = refl
+and-assoc false b c = refl
+
+module _ (S : Session) where
+  -- Records of two lists.
+  pub surfaces-append : (a b : List Surface) → surfacesRight S (a ++ b) ≡ (surfacesRight S a && surfacesRight S b)
+  surfaces-append [] b = refl
+  surfaces-append (x ∷ a) b = ap (λ q. surfaceRight S x && q) (surfaces-append a b) ∙ and-assoc (surfaceRight S x) (surfacesRight S a) (surfacesRight S b)
+
+  pub actions-append : (a b : List Action) → actionsRight S (a ++ b) ≡ (actionsRight S a && actionsRight S b)
+  actions-append [] b = refl
+  actions-append (x ∷ a) b = ap (λ q. rangeRight S (x .range) && q) (actions-append a b) ∙ and-assoc (rangeRight S (x .range)) (actionsRight S a) (actionsRight S b)
+
+  -- Records that pass a test.
+  pub surfaces-retain : (f : Surface → Bool) (d : List Surface) → surfacesRight S d ≡ true → surfacesRight S (retain f d) ≡ true
+  surfaces-retain f [] h = refl
+  surfaces-retain f (x ∷ d) h = go (f x) (surfaces-retain f d (and-right (surfaceRight S x) (surfacesRight S d) h))
+    where
+      go : (b : Bool) → surfacesRight S (retain f d) ≡ true → surfacesRight S (cond b (x ∷ retain f d) (retain f d)) ≡ true
+      go true ih = and-on (surfaceRight S x) _ (and-left (surfaceRight S x) (surfacesRight S d) h) ih
+      go false ih = ih
+
+  -- A surface of the session as a range, and a range's first surface.
+  pub only-right : (s : Surface) → surfaceRight S s ≡ true → rangeRight S (onlyRange s) ≡ true
+  only-right s h =
+      let i : Inside S s = surface-inside S s h in
+      inside-range S (onlyRange s) (record { texture = i .texture; some-mip = omega arith; mips = omega (arith, i .mip); some-layer = omega arith; layers = omega (arith, i .layer) })
+
+  pub first-right : (r : Range) → rangeRight S r ≡ true → surfaceRight S (firstOf r) ≡ true
+  first-right r h = inside-surface S (firstOf r) (range-first S r (range-inside S r h))
+
+  -- The implicit actions of clears.
+  pub implicits-right : (d : List Surface) → surfacesRight S d ≡ true → actionsRight S (map implicitAt d) ≡ true
+  implicits-right [] h = refl
+  implicits-right (s ∷ d) h =
+      and-on (rangeRight S (onlyRange s)) _ (only-right s (and-left (surfaceRight S s) (surfacesRight S d) h))
+      (implicits-right d (and-right (surfaceRight S s) (surfacesRight S d) h))

@@ -1,0 +1,13 @@
+pub mod Tests
+pub mod Conjunctions
+pub mod Verdicts
+pub mod Surfaces
+pub mod Overlap
+pub mod Status
+pub mod Lists
+pub mod Folds
+pub mod Places
+pub mod Submission
+pub mod Room
+pub mod Views
+pub mod Lent

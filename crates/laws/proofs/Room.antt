@@ -1,0 +1,100 @@
+-- The room that the lists take: what a pass clears was listed before it or is listed by it, so that clears and discards together grow by what it lists.
+use mathlib.Core.Path.{_≡_, refl}
+use mathlib.Core.Bool.{Bool, true, false, _&&_, cond}
+use mathlib.Core.List.{List, [], _∷_, _++_}
+use mathlib.Core.Option.{Option, none, some}
+use Prim.Native.Nat.{ℕ, zero, suc, _+_, _≤_}
+use native.Mathlib.Omega.{arith}
+use lib.Dec.{leb}
+use lib.ListN.{length, length-append}
+use borrow.Author.Tests.{leb-true}
+use Rattle.definition.specs.Sizes.{maxDiscards}
+use Rattle.definition.specs.Surfaces.{named}
+use Rattle.definition.specs.Session.{Session, Pass, isNone, viewRange}
+use Rattle.definition.specs.MemoryInit.{Lists, matching, registerInitAction, registered, discarded}
+use Rattle.definition.specs.Attachments.{Attached, resolveTo, rangeIn, kindOf, discards, attach, attachAll, depthStencilOf, depthStencilPart, resolvePart, colorOf, slotPart, slotParts, attachments}
+use Rattle.definition.specs.Pass.{discardsFit}
+use Rattle.definition.specs.declared.Range.{Range}
+use Rattle.definition.specs.declared.Slot.{Slot}
+use Rattle.definition.specs.declared.MemoryInitKind.{MemoryInitKind}
+use Rattle.definition.specs.declared.MemoryInitKind.the-variants.{ImplicitlyInitialized, NeedsInitializedMemory}
+use Rattle.laws.specs.Room.{held, listedBy, listedByAll}
+use Rattle.laws.proofs.Tests.{and-left, and-right}
+use Rattle.laws.proofs.Lists.{matching-others}
+
+-- ── clears and discards
+
+-- A registration moves discards to the clears, or drops them.
+pub register-held : (r : Range) (k : Option MemoryInitKind) (l : Lists) → held (registered r k l) ≤ held l
+unfolding registerInitAction
+register-held r none l = omega arith
+register-held r (some NeedsInitializedMemory) l = omega (arith, length-append (l .clears) (matching r (l .discards)), matching-others r (l .discards))
+register-held r (some ImplicitlyInitialized) l = omega (arith, matching-others r (l .discards))
+
+pub discarded-held : (r : Range) (b : Bool) (l : Lists) → held (discarded r b l) ≤ held l + cond b (length (named r)) 0
+discarded-held r true l = omega (arith, length-append (l .discards) (named r))
+discarded-held r false l = omega arith
+
+pub attach-held : (x : Attached) (l : Lists) → held (attach x l) ≤ held l + listedBy x
+attach-held x l = omega (arith, discarded-held (rangeIn x) (discards x) (registered (rangeIn x) (kindOf x) l), register-held (rangeIn x) (kindOf x) l)
+
+pub all-held : (xs : List Attached) (l : Lists) → held (attachAll xs l) ≤ held l + listedByAll xs
+all-held [] l = omega arith
+all-held (x ∷ xs) l = omega (arith, attach-held x l, all-held xs (attach x l))
+
+-- ── what a pass lists
+
+pub listed-append : (xs ys : List Attached) → listedByAll (xs ++ ys) ≡ listedByAll xs + listedByAll ys
+listed-append [] ys = omega arith
+listed-append (x ∷ xs) ys = omega (arith, listed-append xs ys)
+
+-- One entry an attachment.
+pub listed-one : (x : Attached) → listedBy x ≤ 1
+listed-one x = go (discards x)
+  where
+    go : (b : Bool) → cond b 1 0 ≤ 1
+    go true = omega arith
+    go false = omega arith
+
+-- One entry a slot: its resolve target lists none.
+pub slot-listed : (S : Session) (c : Slot) → listedByAll (slotPart S c) ≤ 1
+unfolding slotPart resolvePart
+slot-listed S c = go (isNone (c .view)) (isNone (c .resolve))
+  where
+    go : (b t : Bool) → listedByAll (cond b [] (colorOf S c ∷ cond t [] (resolveTo (c .resolve) (viewRange (S .view (c .resolve))) ∷ []))) ≤ 1
+    go true t = omega arith
+    go false true = omega (arith, listed-one (colorOf S c))
+    go false false = omega (arith, listed-one (colorOf S c))
+
+pub slots-listed : (S : Session) (p : Pass) (n : ℕ) → listedByAll (slotParts S p n) ≤ n
+unfolding slotParts
+slots-listed S p zero = omega arith
+slots-listed S p (suc n) = omega (arith, listed-append (slotParts S p n) (slotPart S (p .slot n)), slot-listed S (p .slot n), slots-listed S p n)
+
+-- One entry for depth-stencil and one a slot.
+pub pass-listed : (S : Session) (p : Pass) → listedByAll (attachments S p) ≤ 1 + p .colors
+unfolding attachments depthStencilPart
+pass-listed S p = go (isNone (p .depthStencil))
+  where
+    go : (b : Bool) → listedByAll (_++_ {A = Attached} (cond b [] (depthStencilOf S p (S .view (p .depthStencil)) ∷ [])) (slotParts S p (p .colors))) ≤ 1 + p .colors
+    go true = omega (arith, slots-listed S p (p .colors))
+    go false = omega (arith, slots-listed S p (p .colors), listed-one (depthStencilOf S p (S .view (p .depthStencil))))
+
+-- ── 49
+
+-- Where every step fits, the end fits.
+pub discards-fit : (xs : List Attached) (l : Lists) → discardsFit xs l ≡ true → length (l .discards) ≤ maxDiscards → length (attachAll xs l .discards) ≤ maxDiscards
+discards-fit [] l h g = g
+discards-fit (x ∷ xs) l h g =
+    discards-fit xs (attach x l) (and-right (leb (length (attach x l .discards)) maxDiscards) (discardsFit xs (attach x l)) h)
+    (leb-true (length (attach x l .discards)) maxDiscards (and-left (leb (length (attach x l .discards)) maxDiscards) (discardsFit xs (attach x l)) h))
+
+-- One attachment further.
+pub fit-append : (xs ys : List Attached) (l : Lists) → discardsFit (xs ++ ys) l ≡ (discardsFit xs l && discardsFit ys (attachAll xs l))
+fit-append [] ys l = refl
+fit-append (x ∷ xs) ys l = go (leb (length (attach x l .discards)) maxDiscards) (fit-append xs ys (attach x l))
+  where
+    go : (b : Bool) → discardsFit (xs ++ ys) (attach x l) ≡ (discardsFit xs (attach x l) && discardsFit ys (attachAll xs (attach x l)))
+        → (b && discardsFit (xs ++ ys) (attach x l)) ≡ ((b && discardsFit xs (attach x l)) && discardsFit ys (attachAll xs (attach x l)))
+    go true ih = ih
+    go false ih = refl

@@ -1,0 +1,210 @@
+-- Laws of surfaces, ranges and lists of surfaces: a range has a surface exactly where three tests on numbers pass.
+use mathlib.Core.Path.{_≡_, refl, sym, ap, ap₂, _∙_}
+use mathlib.Core.Bool.{Bool, true, false, _&&_, _||_, cond, or-assoc, and-false, or-false}
+use mathlib.Core.List.{List, [], _∷_, _++_}
+use Prim.Native.Nat.{ℕ, zero, suc, _+_, _≤_, _<_}
+use native.Mathlib.Omega.{arith}
+use lib.Dec.{leb, ltb, eqb}
+use borrow.Author.Tests.{eqb-true, eqb-false, eq-eqb, ne-eqb, leb-true, leb-false, ltb-true, ltb-false, le-leb, lt-ltb}
+use Rattle.definition.specs.Surfaces.{same, within, hits, firstOf, onlyRange, named, layersFrom, layersOf, elem}
+use Rattle.definition.specs.Session.{Session, arrayLayers}
+use Rattle.definition.specs.MemoryInit.{retain}
+use Rattle.definition.specs.Calls.{surfaceRight, rangeRight}
+use Rattle.definition.specs.declared.Surface.{Surface}
+use Rattle.definition.specs.declared.Range.{Range}
+use Rattle.laws.specs.Surfaces.{InRange, Inside, RangeInside}
+use Rattle.laws.proofs.Tests.{clash, and-left, and-right, bool-iff, or-factor}
+
+-- ── equal surfaces
+
+pub same-refl : (a : Surface) → same a a ≡ true
+unfolding same
+same-refl a = simp (eq-eqb (a .texture) (a .texture) refl, eq-eqb (a .mip) (a .mip) refl, eq-eqb (a .layer) (a .layer) refl)
+
+pub same-eq : (a b : Surface) → same a b ≡ true → a ≡ b
+unfolding same
+same-eq a b h = λ i. record { texture = t i; mip = m i; layer = l i }
+  where
+    tm : (eqb (a .texture) (b .texture) && eqb (a .mip) (b .mip)) ≡ true
+    tm = and-left (eqb (a .texture) (b .texture) && eqb (a .mip) (b .mip)) _ h
+
+    t : a .texture ≡ b .texture
+    t = eqb-true _ _ (and-left (eqb (a .texture) (b .texture)) _ tm)
+
+    m : a .mip ≡ b .mip
+    m = eqb-true _ _ (and-right (eqb (a .texture) (b .texture)) _ tm)
+
+    l : a .layer ≡ b .layer
+    l = eqb-true _ _ (and-right (eqb (a .texture) (b .texture) && eqb (a .mip) (b .mip)) _ h)
+
+pub same-ne : (a b : Surface) → (a ≡ b → ⊥) → same a b ≡ false
+same-ne a b h = bool-iff _ _ (λ e. absurd (h (same-eq a b e))) (λ e. clash {b = false} e refl)
+
+-- ── one of n numbers
+
+pub within-none : (a x : ℕ) → within a 0 x ≡ false
+unfolding within
+within-none a x =
+    bool-iff _ _
+    (λ h. absurd (omega (arith, leb-true a x (and-left (leb a x) (ltb x (a + 0)) h), ltb-true x (a + 0) (and-right (leb a x) (ltb x (a + 0)) h))))
+    (λ h. clash {b = false} h refl)
+
+pub within-one : (a x : ℕ) → within a 1 x ≡ eqb x a
+unfolding within
+within-one a x = go (leb a x) refl (ltb x (a + 1)) refl
+  where
+    go : (p : Bool) → leb a x ≡ p → (q : Bool) → ltb x (a + 1) ≡ q → (leb a x && ltb x (a + 1)) ≡ eqb x a
+    go true e true f = simp (e, f, eq-eqb x a (omega (arith, leb-true a x e, ltb-true x (a + 1) f)))
+    go true e false f = simp (e, f, ne-eqb x a (λ h. omega (arith, ltb-false x (a + 1) f)))
+    go false e q f = simp (e, ne-eqb x a (λ h. omega (arith, leb-false a x e)))
+
+-- One number more.
+pub within-more : (a n x : ℕ) → within a (suc n) x ≡ (eqb x a || within (a + 1) n x)
+unfolding within
+within-more a n x = go (eqb x a) refl
+  where
+    go : (q : Bool) → eqb x a ≡ q → (leb a x && ltb x (a + suc n)) ≡ (eqb x a || (leb (a + 1) x && ltb x (a + 1 + n)))
+    go true e = simp (e, le-leb a x (omega (arith, eqb-true x a e)), lt-ltb x (a + suc n) (omega (arith, eqb-true x a e)))
+    go false e = rw e (ap₂ _&&_ low (ap (ltb x) (omega arith)))
+      where
+        low : leb a x ≡ leb (a + 1) x
+        low =
+            bool-iff _ _ (λ h. le-leb (a + 1) x (omega (arith, leb-true a x h, eqb-false x a e)))
+            (λ h. le-leb a x (omega (arith, leb-true (a + 1) x h)))
+
+pub within-on : (a n x : ℕ) → a ≤ x → x < a + n → within a n x ≡ true
+unfolding within
+within-on a n x h g = simp (le-leb a x h, lt-ltb x (a + n) g)
+
+-- ── what a range has
+
+-- The test as facts, and from facts.
+pub hits-in : (r : Range) (s : Surface) → hits r s ≡ true → InRange r s
+unfolding hits within
+hits-in r s h =
+    let tm : (eqb (s .texture) (r .texture) && within (r .mip) (r .mips) (s .mip)) ≡ true =
+    and-left (eqb (s .texture) (r .texture) && within (r .mip) (r .mips) (s .mip)) _ h in
+    let m : within (r .mip) (r .mips) (s .mip) ≡ true = and-right (eqb (s .texture) (r .texture)) _ tm in
+    let l : within (r .layer) (r .layers) (s .layer) ≡ true =
+    and-right (eqb (s .texture) (r .texture) && within (r .mip) (r .mips) (s .mip)) _ h in
+    record {
+      texture = eqb-true _ _ (and-left (eqb (s .texture) (r .texture)) _ tm);
+      mip-low = leb-true _ _ (and-left (leb (r .mip) (s .mip)) _ m);
+      mip-high = ltb-true _ _ (and-right (leb (r .mip) (s .mip)) _ m);
+      layer-low = leb-true _ _ (and-left (leb (r .layer) (s .layer)) _ l);
+      layer-high = ltb-true _ _ (and-right (leb (r .layer) (s .layer)) _ l);
+    }
+
+pub hits-on : (r : Range) (s : Surface) → InRange r s → hits r s ≡ true
+unfolding hits within
+hits-on r s h =
+    simp (
+      eq-eqb (s .texture) (r .texture) (h .texture),
+      le-leb (r .mip) (s .mip) (h .mip-low),
+      lt-ltb (s .mip) (r .mip + r .mips) (h .mip-high),
+      le-leb (r .layer) (s .layer) (h .layer-low),
+      lt-ltb (s .layer) (r .layer + r .layers) (h .layer-high),
+    )
+
+pub hits-off : (r : Range) (s : Surface) → (InRange r s → ⊥) → hits r s ≡ false
+hits-off r s h = bool-iff _ _ (λ e. absurd (h (hits-in r s e))) (λ e. clash {b = false} e refl)
+
+-- A range of one mip and one layer has its first surface alone; a surface's own range has that surface alone.
+pub hits-one : (r : Range) (s : Surface) → r .mips ≡ 1 → r .layers ≡ 1 → hits r s ≡ same s (firstOf r)
+unfolding hits same
+hits-one r s p q = rw (p, q) (simp within-one)
+
+pub hits-only : (t s : Surface) → hits (onlyRange t) s ≡ same s t
+hits-only t s = hits-one (onlyRange t) s refl refl
+
+-- ── lists of surfaces
+
+pub elem-append : (s : Surface) (a b : List Surface) → elem s (a ++ b) ≡ (elem s a || elem s b)
+elem-append s [] b = refl
+elem-append s (x ∷ a) b = rw (elem-append s a b) (sym (or-assoc (same s x) (elem s a) (elem s b)))
+
+pub elem-retain : (f : Surface → Bool) (s : Surface) (l : List Surface) → elem s (retain f l) ≡ (f s && elem s l)
+elem-retain f s [] = sym (and-false (f s))
+elem-retain f s (x ∷ l) = go (f x) refl (same s x) refl (elem-retain f s l)
+  where
+    go : (p : Bool) → f x ≡ p → (q : Bool) → same s x ≡ q → elem s (retain f l) ≡ (f s && elem s l)
+        → elem s (cond (f x) (x ∷ retain f l) (retain f l)) ≡ (f s && (same s x || elem s l))
+    go true e true g ih = let h : f s ≡ true = ap f (same-eq s x g) ∙ e in simp (e, g, h)
+    go true e false g ih = simp (e, g, ih)
+    go false e true g ih = let h : f s ≡ false = ap f (same-eq s x g) ∙ e in simp (e, ih, h)
+    go false e false g ih = simp (e, g, ih)
+
+-- The layers of a mip.
+pub elem-layers : (t m l n : ℕ) (s : Surface)
+    → elem s (layersFrom t m l n) ≡ (eqb (s .texture) t && eqb (s .mip) m && within l n (s .layer))
+unfolding same
+elem-layers t m l zero s =
+    sym (ap (λ q. eqb (s .texture) t && eqb (s .mip) m && q) (within-none l (s .layer)) ∙ and-false (eqb (s .texture) t && eqb (s .mip) m))
+elem-layers t m l (suc n) s =
+    rw (elem-layers t m (l + 1) n s, within-more l n (s .layer))
+    (or-factor (eqb (s .texture) t && eqb (s .mip) m) (eqb (s .layer) l) (within (l + 1) n (s .layer)))
+
+-- A range of one mip has the surfaces of its layers.
+pub layers-all : (r : Range) → r .mips ≡ 1 → (s : Surface) → elem s (layersOf r) ≡ hits r s
+unfolding hits
+layers-all r p s =
+    elem-layers (r .texture) (r .mip) (r .layer) (r .layers) s
+    ∙ ap (λ q. eqb (s .texture) (r .texture) && q && within (r .layer) (r .layers) (s .layer))
+    (sym (ap (λ n. within (r .mip) n (s .mip)) p ∙ within-one (r .mip) (s .mip)))
+
+-- What a discard of a range of one mip and one layer names is what the range has.
+pub named-one : (r : Range) → r .mips ≡ 1 → r .layers ≡ 1 → (s : Surface) → elem s (named r) ≡ hits r s
+named-one r p q s = or-false (same s (firstOf r)) ∙ sym (hits-one r s p q)
+
+-- ── surfaces and ranges of a session
+
+-- Number 6's tests as facts, and from facts.
+pub surface-inside : (S : Session) (s : Surface) → surfaceRight S s ≡ true → Inside S s
+unfolding surfaceRight
+surface-inside S s h =
+    let tm : (ltb (s .texture) (S .textureCount) && ltb (s .mip) (S .texture (s .texture) .mips)) ≡ true =
+    and-left (ltb (s .texture) (S .textureCount) && ltb (s .mip) (S .texture (s .texture) .mips)) _ h in
+    record {
+      texture = ltb-true _ _ (and-left (ltb (s .texture) (S .textureCount)) _ tm);
+      mip = ltb-true _ _ (and-right (ltb (s .texture) (S .textureCount)) _ tm);
+      layer = ltb-true _ _ (and-right (ltb (s .texture) (S .textureCount) && ltb (s .mip) (S .texture (s .texture) .mips)) _ h);
+    }
+
+pub inside-surface : (S : Session) (s : Surface) → Inside S s → surfaceRight S s ≡ true
+unfolding surfaceRight
+inside-surface S s h =
+    simp (
+      lt-ltb (s .texture) (S .textureCount) (h .texture),
+      lt-ltb (s .mip) (S .texture (s .texture) .mips) (h .mip),
+      lt-ltb (s .layer) (arrayLayers (S .texture (s .texture))) (h .layer),
+    )
+
+pub range-inside : (S : Session) (r : Range) → rangeRight S r ≡ true → RangeInside S r
+unfolding rangeRight
+range-inside S r h =
+    let t : Bool = ltb (r .texture) (S .textureCount) in
+    let a : Bool = leb 1 (r .mips) in
+    let b : Bool = leb (r .mip + r .mips) (S .texture (r .texture) .mips) in
+    let c : Bool = leb 1 (r .layers) in
+    let d : Bool = leb (r .layer + r .layers) (arrayLayers (S .texture (r .texture))) in
+    let h1 : (t && a && b && c) ≡ true = and-left (t && a && b && c) d h in
+    let h2 : (t && a && b) ≡ true = and-left (t && a && b) c h1 in
+    let h3 : (t && a) ≡ true = and-left (t && a) b h2 in
+    record {
+      texture = ltb-true _ _ (and-left t a h3);
+      some-mip = leb-true _ _ (and-right t a h3);
+      mips = leb-true _ _ (and-right (t && a) b h2);
+      some-layer = leb-true _ _ (and-right (t && a && b) c h1);
+      layers = leb-true _ _ (and-right (t && a && b && c) d h);
+    }
+
+pub inside-range : (S : Session) (r : Range) → RangeInside S r → rangeRight S r ≡ true
+unfolding rangeRight
+inside-range S r h =
+    simp (
+      lt-ltb (r .texture) (S .textureCount) (h .texture),
+      le-leb 1 (r .mips) (h .some-mip),
+      le-leb (r .mip + r .mips) (S .texture (r .texture) .mips) (h .mips),
+      le-leb 1 (r .layers) (h .some-layer),
+      le-leb (r .layer + r .layers) (arrayLayers (S .texture (r .texture))) (h .layers),
+    )

@@ -1,0 +1,71 @@
+-- Laws of verdicts: what a fine verdict says of its parts, and what a chain is at the first refusal.
+use mathlib.Core.Path.{_≡_, refl, sym, ap, _∙_}
+use mathlib.Core.Bool.{Bool, true, false}
+use Prim.Native.Nat.{ℕ}
+use lib.Dec.{eqb}
+use Rattle.definition.specs.Verdict.{fine, isFine, refusedAt, _then_, unless, unlessAgainst}
+use Rattle.definition.specs.declared.Verdict.{Verdict}
+use Rattle.laws.proofs.Tests.{clash}
+
+-- ── a fine verdict taken apart
+
+-- Both checks of a chain that is fine.
+pub then-left : (v w : Verdict) → isFine (v then w) ≡ true → isFine v ≡ true
+unfolding _then_
+then-left v w h = go (isFine v) refl
+  where
+    go : (b : Bool) → isFine v ≡ b → isFine v ≡ true
+    go true e = e
+    go false e = rw e at h
+
+pub then-right : (v w : Verdict) → isFine (v then w) ≡ true → isFine w ≡ true
+unfolding _then_
+then-right v w h = go (isFine v) refl
+  where
+    go : (b : Bool) → isFine v ≡ b → isFine w ≡ true
+    go true e = rw e at h
+    go false e = clash (rw e at h) e
+
+-- The test of a check that is fine.
+pub unless-on : (b : Bool) (n p : ℕ) → eqb n 0 ≡ false → isFine (unless b n p) ≡ true → b ≡ true
+unfolding unless
+unless-on true n p z h = refl
+unless-on false n p z h = clash h z
+
+pub against-on : (b : Bool) (n p e : ℕ) → eqb n 0 ≡ false → isFine (unlessAgainst b n p e) ≡ true → b ≡ true
+unfolding unlessAgainst
+against-on true n p e z h = refl
+against-on false n p e z h = clash h z
+
+-- ── a chain at the first refusal
+
+pub then-stop : (v w : Verdict) → isFine v ≡ false → v then w ≡ v
+unfolding _then_
+then-stop v w h = rw h
+
+pub then-go : (v w : Verdict) → isFine v ≡ true → v then w ≡ w
+unfolding _then_
+then-go v w h = rw h
+
+pub then-assoc : (u v w : Verdict) → (u then v) then w ≡ u then v then w
+then-assoc u v w = go (isFine u) refl
+  where
+    go : (b : Bool) → isFine u ≡ b → (u then v) then w ≡ u then v then w
+    go true e = ap (λ x. x then w) (then-go u v e) ∙ sym (then-go u (v then w) e)
+    go false e = ap (λ x. x then w) (then-stop u v e) ∙ then-stop u w e ∙ sym (then-stop u (v then w) e)
+
+pub unless-fine : (b : Bool) (n p : ℕ) → b ≡ true → unless b n p ≡ fine
+unfolding unless
+unless-fine b n p h = rw h
+
+pub unless-refused : (b : Bool) (n p : ℕ) → b ≡ false → unless b n p ≡ refusedAt n p
+unfolding unless
+unless-refused b n p h = rw h
+
+pub against-fine : (b : Bool) (n p e : ℕ) → b ≡ true → unlessAgainst b n p e ≡ fine
+unfolding unlessAgainst
+against-fine b n p e h = rw h
+
+pub against-refused : (b : Bool) (n p e : ℕ) → b ≡ false → unlessAgainst b n p e ≡ record { number = n; place = p; earlier = e }
+unfolding unlessAgainst
+against-refused b n p e h = rw h

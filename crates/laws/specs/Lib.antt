@@ -1,0 +1,3 @@
+pub mod Surfaces
+pub mod Submission
+pub mod Room

@@ -1,0 +1,20 @@
+-- How many entries the clears and the discards have, and how many a pass may add.
+use Prim.Native.Nat.{ℕ, _+_}
+use mathlib.Core.List.{List, [], _∷_}
+use mathlib.Core.Bool.{cond}
+use lib.ListN.{length}
+use Rattle.definition.specs.Surfaces.{named}
+use Rattle.definition.specs.MemoryInit.{Lists}
+use Rattle.definition.specs.Attachments.{Attached, rangeIn, discards}
+
+-- Entries among the clears and the discards.
+abbrev pub held : Lists → ℕ
+held l = length (l .clears) + length (l .discards)
+
+-- Entries that an attachment lists, and that attachments list.
+abbrev pub listedBy : Attached → ℕ
+listedBy x = cond (discards x) (length (named (rangeIn x))) 0
+
+abbrev pub listedByAll : List Attached → ℕ
+listedByAll [] = 0
+listedByAll (x ∷ xs) = listedBy x + listedByAll xs

@@ -1,0 +1,78 @@
+#!/usr/bin/env bash
+# Edits of `definition` that the theorem must refuse: tools/definition-edits.sh [NAME..], all of them if none is named.
+# `rt must-fail` tries an edit on its own crate alone, so each edit of crates/noninterference/definition-edits is made on a copy of the three
+# crates, without the computed checks, and the fact that the edit names must fail there. EDIT_JOBS run at a time (default 2).
+# Last line: 'N passed, M failed'. What each check says stays in target/definition-edits.
+set -u
+cd "$(dirname "$0")/.." || exit 2
+
+edits=crates/noninterference/definition-edits
+logs=$PWD/target/definition-edits
+work=$(mktemp -d) || exit 2
+trap 'rm -rf "$work"' EXIT
+mkdir -p "$logs" || exit 2
+if [ $# -eq 0 ]; then set -- "$edits"/*.edit; else set -- "${@/#/$edits/}" && set -- "${@/%/.edit}"; fi
+
+# The crates as every edit finds them: without must-fail edits, and without the files of computed checks.
+mkdir "$work/base" "$work/base/crates" || exit 2
+cp -r crates/definition crates/laws crates/noninterference "$work/base/crates/" || exit 2
+grep -E '^(definition|laws|noninterference):' crates.txt > "$work/base/crates.txt"
+rm -rf "$work"/base/crates/*/must-fail "$work/base/$edits"
+rm -f "$work"/base/crates/definition/specs/{Corners,Sessions,Files}.antt "$work/base/crates/noninterference/proofs/Examples.antt"
+sed -i -E '/^pub mod (Corners|Sessions|Files|Examples)$/d' \
+    "$work/base/crates/definition/specs/Lib.antt" "$work/base/crates/noninterference/proofs/Lib.antt"
+
+# A line of an edit; ⏎ stands for the end of a line.
+field() { # NAME EDIT
+    local text
+    text=$(sed -n "s/^$1: //p" "$2")
+    printf '%s' "${text//⏎/$'\n'}"
+}
+
+# Makes the edit in a crate's folder: the old text occurs once, and the new one takes its place.
+apply() { # EDIT FOLDER
+    local file old new text rest
+    file=$2/$(field file "$1") old=$(field old "$1") new=$(field new "$1")
+    [ -f "$file" ] && [ -n "$old" ] || return 1
+    text=$(< "$file")
+    rest=${text/"$old"/}
+    [ "$rest" != "$text" ] && [ "${rest/"$old"/}" = "$rest" ] || return 1
+    printf '%s\n' "${text/"$old"/"$new"}" > "$file"
+}
+
+# Tries one edit: prints a line, and leaves the word passed or failed.
+try() { # EDIT
+    local name copy log fact at said
+    name=$(basename "$1" .edit)
+    copy=$work/$name log=$logs/$name
+    cp -r "$work/base" "$copy"
+    fact=$(field fact "$1")
+    said='NOT REFUSED: the theorem still holds'
+    if [ -z "$fact" ] || ! apply "$1" "$copy/crates/definition"; then
+        said='BAD EDIT: it names no fact, or its text does not occur once'
+    elif ! (cd "$copy" && rt check noninterference) > "$log" 2>&1; then
+        at=$(grep -E "/crates/(laws|noninterference)/[^ ]*: error: \`$fact\`" "$log" | grep -v 'was not admitted' | sed -E "s|^$copy/||; s|: error: .*||; q")
+        if ! grep -q '^rt: definition proved' "$log"; then
+            said='BAD EDIT: it is no definition'
+        elif grep -q -E 'error: .*(not in scope|can be named from here|has no field)' "$log"; then
+            said='BAD EDIT: a name is missing'
+        elif [ -z "$at" ]; then
+            said="REFUSED ELSEWHERE: not at $fact"
+        else
+            said="refused at $fact ($at)"
+        fi
+    fi
+    echo "$name: $said"
+    case $said in refused*) echo passed ;; *) echo failed ;; esac > "$work/$name.result"
+    rm -rf "$copy"
+}
+
+for edit in "$@"; do
+    while [ "$(jobs -rp | wc -l)" -ge "${EDIT_JOBS:-2}" ]; do wait -n; done
+    try "$edit" &
+done
+wait
+
+passed=$(cat "$work"/*.result | grep -c passed) failed=$(($# - passed))
+echo "$passed passed, $failed failed"
+[ "$failed" -eq 0 ]
