@@ -1,0 +1,41 @@
+//! `make-answers OUT [--seed S] [--sessions N]` writes the list of sessions with the Rust's answers
+//! that a Rattle program replays. Without the two words it makes the committed list again.
+
+use std::process::ExitCode;
+
+use checks::answers::{list, to_bytes};
+use checks::words::{only, value};
+
+/// Seed of the committed list.
+const SEED: u64 = 9_001;
+/// Sessions of the committed list.
+const SESSIONS: usize = 510;
+
+/// Makes the list and writes it.
+fn run(arguments: &[String]) -> Result<(), String> {
+    let (out, rest) = arguments
+        .split_first()
+        .filter(|(out, _)| !out.starts_with("--"))
+        .ok_or("make-answers OUT [--seed S] [--sessions N]")?;
+    only(rest, &["--seed", "--sessions"], &[])?;
+    let seed = value(rest, "--seed", SEED)?;
+    let records = list(seed, value(rest, "--sessions", SESSIONS)?);
+    let bytes = to_bytes(&records);
+    std::fs::write(out, &bytes).map_err(|wrong| format!("{out}: {wrong}"))?;
+    println!("seed {seed}");
+    println!("sessions {}", records.len());
+    println!("bytes {}", bytes.len());
+    Ok(())
+}
+
+/// Reads the arguments.
+fn main() -> ExitCode {
+    let arguments: Vec<String> = std::env::args().skip(1).collect();
+    match run(&arguments) {
+        Ok(()) => ExitCode::SUCCESS,
+        Err(wrong) => {
+            eprintln!("{wrong}");
+            ExitCode::FAILURE
+        }
+    }
+}

@@ -1,0 +1,119 @@
+//! One call on guarded copies of lent buffers, and the comparison of two outcomes.
+
+use interface::{u32_at, Desk, Lists};
+
+use crate::guard::{Guarded, Loan};
+
+/// A call.
+#[derive(Clone, Copy, Debug, PartialEq, Eq)]
+pub enum Call {
+    /// The check of a pass by its number.
+    Pass(u32),
+    Submit,
+}
+
+/// What a call answers and leaves.
+#[derive(Clone, Debug, PartialEq, Eq)]
+pub struct Outcome {
+    /// The reply's words, or a submission's number.
+    pub words: Vec<u32>,
+    pub lists: Lists,
+}
+
+impl Outcome {
+    /// The number: 0 accepted.
+    pub fn number(&self) -> u32 {
+        self.words[0]
+    }
+}
+
+/// Makes a call on guarded copies. Nothing outside them is written, a session stays as it is, and
+/// what a call may not write stays: everything after a refusal; the status in a pass check; the
+/// clears in a submission.
+pub fn make(desk: &dyn Desk, session: &[u8], call: Call, lists: &Lists) -> Result<Outcome, String> {
+    let file = Guarded::new(session);
+    let mut loan = Loan::of(lists);
+    let words = match call {
+        Call::Pass(number) => desk.pass(file.content(), number, loan.lend()).words(),
+        Call::Submit => vec![desk.submit(file.content(), loan.lend())],
+    };
+    let told = |wrong: &str| format!("{call:?} answered {}: {wrong}\n", words[0]);
+    if !file.intact() || file.content() != session {
+        return Err(told("the session was written"));
+    }
+    let lists_after = loan.back().map_err(|wrong| told(&wrong))?;
+    if let Some(part) = wrongly_changed(call, words[0], lists, &lists_after) {
+        return Err(told(&format!("changed the {part}")));
+    }
+    Ok(Outcome {
+        words,
+        lists: lists_after,
+    })
+}
+
+/// A buffer that the call may not change, and did.
+fn wrongly_changed(call: Call, number: u32, before: &Lists, after: &Lists) -> Option<&'static str> {
+    let refused = number != 0;
+    let kept = [
+        ("discards", refused, before.discards == after.discards),
+        ("actions", refused, before.actions == after.actions),
+        (
+            "clears",
+            refused || call == Call::Submit,
+            before.clears == after.clears,
+        ),
+        (
+            "status",
+            refused || call != Call::Submit,
+            before.status == after.status,
+        ),
+    ];
+    let wrong = kept.iter().find(|(_, keeps, same)| *keeps && !same);
+    wrong.map(|(name, _, _)| *name)
+}
+
+/// Where two outcomes of the same call differ, if anywhere. After an accepted pass the places that
+/// discards left are free: bytes past the listed ones up to the greater of both counts.
+pub fn difference(before: &Lists, expected: &Outcome, got: &Outcome) -> Option<String> {
+    if expected.words != got.words {
+        return Some(format!(
+            "expected {:?}\ngot      {:?}\n",
+            expected.words, got.words
+        ));
+    }
+    let mut lists = got.lists.clone();
+    if expected.number() == 0 && expected.words.len() > 1 {
+        forget_left_places(before, &expected.lists, &mut lists);
+    }
+    let parts = [
+        ("discards", &expected.lists.discards, &lists.discards),
+        ("actions", &expected.lists.actions, &lists.actions),
+        ("clears", &expected.lists.clears, &lists.clears),
+        ("status", &expected.lists.status, &lists.status),
+    ];
+    let (name, expected, got) = parts.iter().find(|(_, a, b)| a != b)?;
+    Some(first_byte(name, expected, got))
+}
+
+/// Bytes of a discard record.
+const RECORD: usize = 12;
+
+/// Takes the expected bytes where the interface leaves them free.
+fn forget_left_places(before: &Lists, expected: &Lists, got: &mut Lists) {
+    let end = |lists: &Lists| 4 + RECORD * u32_at(&lists.discards, 0) as usize;
+    let free = end(expected)..end(before).max(end(expected));
+    if free.end <= got.discards.len() {
+        got.discards[free.clone()].copy_from_slice(&expected.discards[free]);
+    }
+}
+
+/// The first byte at which two buffers differ.
+fn first_byte(name: &str, expected: &[u8], got: &[u8]) -> String {
+    if expected.len() != got.len() {
+        return format!("{name}: {} bytes, {} bytes\n", expected.len(), got.len());
+    }
+    let at = expected.iter().zip(got).position(|(a, b)| a != b);
+    let at = at.expect("the caller knows that they differ");
+    let (a, b) = (expected[at], got[at]);
+    format!("{name}, byte {at}: expected {a}, got {b}\n")
+}

@@ -1,0 +1,208 @@
+//! A session file through the C interface, call by call, against the Rust and the model: every
+//! field of every reply, every byte of the lent buffers, whole sessions, and calls on buffers that
+//! are short or off by one.
+
+use std::fmt;
+
+use compare::reduce::reduce;
+use compare::Counts;
+use interface::{Desk, Lists};
+use sessions::random::{self, Prng};
+use sessions::reader;
+use sessions::reply::{first_difference, Answer, Judged};
+use sessions::text;
+
+use crate::calls::{difference, make, Call, Outcome};
+use crate::expected::{after_pass, after_submission, answer, reply_record};
+use crate::variants;
+use crate::whole;
+
+/// What a run has seen.
+#[derive(Clone, Debug, Default)]
+pub struct Tally {
+    pub answers: Counts,
+    /// Calls on lent buffers that were made short or off by one.
+    pub variants: variants::Seen,
+}
+
+impl fmt::Display for Tally {
+    fn fmt(&self, f: &mut fmt::Formatter) -> fmt::Result {
+        write!(f, "{}{}", self.answers, self.variants)
+    }
+}
+
+/// Holds one file's answers and adds them to the tally. A difference is told with a small file that
+/// shows one.
+pub fn hold(
+    desk: &dyn Desk,
+    bytes: &[u8],
+    prng: &mut Prng,
+    tally: &mut Tally,
+) -> Result<(), String> {
+    let (expected, model) = expected_answer(bytes)?;
+    tally.answers.add(&model);
+    let filled = fresh(bytes, prng);
+    let states = walk(desk, bytes, &expected, &filled);
+    let states = states.and_then(|states| whole::hold(desk, bytes).map(|()| states));
+    match states {
+        Ok(states) => variants::hold(desk, bytes, &states, prng, &mut tally.variants)
+            .map_err(|wrong| format!("{wrong}{}", the_file(bytes))),
+        Err(_) => Err(smallest(desk, bytes, &filled)),
+    }
+}
+
+/// The answers to hold the file to, and the model's.
+fn expected_answer(bytes: &[u8]) -> Result<(Answer, Answer), String> {
+    let (rust, model) = (oracle::run(bytes), model::run(bytes));
+    match first_difference(&rust, &model) {
+        None => Ok((answer(rust, &model), model)),
+        Some(wrong) => Err(format!("{wrong}{}", the_file(bytes))),
+    }
+}
+
+/// Fresh lists: counts and the surfaces' status 0. In half of the cases the buffers are longer than
+/// needed, and hold anything behind that.
+fn fresh(bytes: &[u8], prng: &mut Prng) -> Lists {
+    let mut lists = Lists::fresh();
+    if prng.chance(50) {
+        return lists;
+    }
+    let surfaces = reader::read(bytes).map_or(0, |s| reader::surfaces(&s) as usize);
+    let parts = [
+        (&mut lists.discards, 4),
+        (&mut lists.actions, 4),
+        (&mut lists.clears, 4),
+        (&mut lists.status, surfaces),
+    ];
+    for (part, fixed) in parts {
+        part.resize(part.len() + prng.below(20) as usize, 0);
+        part[fixed..].fill_with(|| prng.bits() as u8);
+    }
+    lists
+}
+
+/// The file through the calls, from fresh lists: the lists before each pass.
+fn walk(
+    desk: &dyn Desk,
+    bytes: &[u8],
+    expected: &Answer,
+    fresh: &Lists,
+) -> Result<Vec<Lists>, String> {
+    let refusal = desk.session_refusal(bytes);
+    let rows = match expected {
+        Err(number) if *number == refusal => return refused(desk, bytes, refusal, fresh),
+        Ok(rows) if refusal == 0 => rows,
+        _ => return Err(format!("the session's refusal is {refusal}\n")),
+    };
+    let mut lists = fresh.clone();
+    let mut states = Vec::new();
+    for row in rows {
+        states.push(lists.clone());
+        lists = pass(desk, bytes, row, lists)?;
+        if let Some(status) = &row.submitted {
+            lists = submission(desk, bytes, status, lists)?;
+        }
+    }
+    Ok(states)
+}
+
+/// Every call on a refused session answers its number.
+fn refused(
+    desk: &dyn Desk,
+    bytes: &[u8],
+    number: u32,
+    fresh: &Lists,
+) -> Result<Vec<Lists>, String> {
+    for call in [Call::Pass(0), Call::Submit] {
+        let got = make(desk, bytes, call, fresh)?.number();
+        if got != number {
+            return Err(format!(
+                "{call:?} of a session refused as {number}: {got}\n"
+            ));
+        }
+    }
+    Ok(vec![fresh.clone()])
+}
+
+/// One pass: the reply and what it leaves.
+fn pass(desk: &dyn Desk, bytes: &[u8], row: &Judged, before: Lists) -> Result<Lists, String> {
+    let expected = Outcome {
+        words: reply_record(&row.reply).words(),
+        lists: after_pass(&before, row),
+    };
+    let call = Call::Pass(row.pass as u32);
+    let got = make(desk, bytes, call, &before)?;
+    match difference(&before, &expected, &got) {
+        None => Ok(got.lists),
+        Some(wrong) => Err(format!("pass {}\n{wrong}expected:\n{row}", row.pass)),
+    }
+}
+
+/// One submission: what it leaves.
+fn submission(
+    desk: &dyn Desk,
+    bytes: &[u8],
+    status: &[u8],
+    before: Lists,
+) -> Result<Lists, String> {
+    let expected = Outcome {
+        words: vec![0],
+        lists: after_submission(&before, status),
+    };
+    let got = make(desk, bytes, Call::Submit, &before)?;
+    match difference(&before, &expected, &got) {
+        None => Ok(got.lists),
+        Some(wrong) => Err(format!("submission\n{wrong}")),
+    }
+}
+
+/// The first thing that is wrong with the answers to a file, if any.
+fn fault(desk: &dyn Desk, bytes: &[u8], fresh: &Lists) -> Option<String> {
+    let (expected, _) = expected_answer(bytes).ok()?;
+    let walked = walk(desk, bytes, &expected, fresh).err();
+    walked.or_else(|| whole::hold(desk, bytes).err())
+}
+
+/// A small file that shows a fault, and the fault.
+fn smallest(desk: &dyn Desk, bytes: &[u8], fresh: &Lists) -> String {
+    let small = reduce(bytes, |bytes| fault(desk, bytes, fresh).is_some());
+    let told = fault(desk, &small, fresh).unwrap_or_default();
+    format!("{told}{}", the_file(&small))
+}
+
+/// The file as text.
+fn the_file(bytes: &[u8]) -> String {
+    format!("the file:\n{}", text::from_bytes(bytes))
+}
+
+/// Random files from a seed until there are this many passes; `shown` is told how many there are.
+pub fn random_run(
+    desk: &dyn Desk,
+    seed: u64,
+    passes: u64,
+    shown: &mut dyn FnMut(u64),
+) -> Result<Tally, String> {
+    let mut prng = Prng::new(seed);
+    let mut tally = Tally::default();
+    while tally.answers.passes < passes {
+        hold(desk, &random::file(&mut prng), &mut prng, &mut tally)?;
+        shown(tally.answers.passes);
+    }
+    Ok(tally)
+}
+
+/// Every `step`th enumerated session.
+pub fn enumerated_run(
+    desk: &dyn Desk,
+    seed: u64,
+    step: usize,
+    shown: &mut dyn FnMut(u64),
+) -> Result<Tally, String> {
+    let mut prng = Prng::new(seed);
+    let mut tally = Tally::default();
+    for session in sessions::enumerate::all().iter().step_by(step) {
+        hold(desk, &session.to_bytes(), &mut prng, &mut tally)?;
+        shown(tally.answers.passes);
+    }
+    Ok(tally)
+}

@@ -1,0 +1,71 @@
+//! The files of `examples/`, and the table of `docs/REFUSALS.md`.
+
+use std::fs;
+use std::path::{Path, PathBuf};
+
+/// A file or folder of the repository.
+pub fn repository(path: &str) -> PathBuf {
+    Path::new(env!("CARGO_MANIFEST_DIR"))
+        .join("../..")
+        .join(path)
+}
+
+/// Every example session by name.
+pub fn sessions() -> Vec<(String, Vec<u8>)> {
+    let entries = fs::read_dir(repository("examples")).expect("the folder examples");
+    let mut paths: Vec<PathBuf> = entries
+        .map(|entry| entry.expect("an entry").path())
+        .filter(|path| path.extension().is_some_and(|e| e == "session"))
+        .collect();
+    paths.sort();
+    paths.into_iter().map(named).collect()
+}
+
+/// A file's name without its ending, and its bytes.
+fn named(path: PathBuf) -> (String, Vec<u8>) {
+    let name = path.file_stem().expect("a name").to_string_lossy();
+    let bytes = fs::read(&path).expect("a readable example");
+    (name.into_owned(), bytes)
+}
+
+/// The example that shows a number.
+pub fn of_number(number: u32) -> Option<Vec<u8>> {
+    fs::read(repository(&format!("examples/refusal-{number}.session"))).ok()
+}
+
+/// Every number that the code can answer: those of files, and 6.
+pub fn numbers() -> Vec<u32> {
+    let mut all = compare::numbers_of_files();
+    all.push(6);
+    all.sort_unstable();
+    all
+}
+
+/// A row of the table of refusals.
+#[derive(Debug)]
+pub struct Row {
+    pub number: u32,
+    pub means: String,
+    pub clause: String,
+    pub example: String,
+    pub change: String,
+}
+
+/// The rows of the table in a text: lines of five cells, the first a number.
+pub fn table(text: &str) -> Vec<Row> {
+    text.lines().filter_map(row).collect()
+}
+
+/// The row that a line holds, if it does.
+fn row(line: &str) -> Option<Row> {
+    let inner = line.trim().strip_prefix('|')?.strip_suffix('|')?;
+    let cells: Vec<String> = inner.split('|').map(|cell| cell.trim().into()).collect();
+    let [number, means, clause, example, change] = cells.try_into().ok()?;
+    Some(Row {
+        number: number.parse().ok()?,
+        means,
+        clause,
+        example,
+        change,
+    })
+}

@@ -1,0 +1,200 @@
+//! Random changes of an input of the C functions: the session, the lent buffers, the call.
+
+use interface::put_records;
+use interface::{Lists, ACTIONS_LEN, CLEARS_LEN, DISCARDS_LEN, ROWS_LEN, STATUS_LEN};
+use sessions::damage;
+use sessions::layout::{ACTIONS, CLEARS, DISCARDS, HEADER_LEN, PASS_LEN};
+use sessions::random::Prng;
+
+use crate::calls::Call;
+
+/// What is called.
+#[derive(Clone, Copy, Debug, PartialEq, Eq, PartialOrd, Ord)]
+pub enum Function {
+    Refusal,
+    Pass,
+    Submit,
+    Session,
+}
+
+/// An input: a function with all that it is handed.
+#[derive(Clone, Debug)]
+pub struct Input {
+    pub function: Function,
+    pub session: Vec<u8>,
+    pub pass: u32,
+    pub lists: Lists,
+    /// Bytes of the rows.
+    pub rows: usize,
+}
+
+impl Input {
+    /// A pass check of a session from fresh lists.
+    pub fn new(session: Vec<u8>) -> Input {
+        Input {
+            function: Function::Pass,
+            session,
+            pass: 0,
+            lists: Lists::fresh(),
+            rows: ROWS_LEN,
+        }
+    }
+
+    /// The call on lent lists, if the function is one.
+    pub fn call(&self) -> Option<Call> {
+        match self.function {
+            Function::Pass => Some(Call::Pass(self.pass)),
+            Function::Submit => Some(Call::Submit),
+            Function::Refusal | Function::Session => None,
+        }
+    }
+}
+
+/// One change of the input; parts of the other may be taken over.
+pub fn change(input: &mut Input, other: &Input, prng: &mut Prng) {
+    match prng.below(16) {
+        0 | 1 => input.session = damage::random(&input.session, prng),
+        2..6 => pass_field(&mut input.session, prng),
+        6 => move_pass(&mut input.session, prng),
+        7 => copy_field(&mut input.session, prng),
+        8 | 9 => input.pass = pass_number(input, prng),
+        10 => input.lists = other.lists.clone(),
+        11 if prng.chance(50) => fill_list(&mut input.lists, prng),
+        11 => list_field(&mut input.lists, prng),
+        12 => status_byte(&mut input.lists.status, prng),
+        13 => length(input, prng),
+        _ => input.function = function(prng),
+    }
+}
+
+/// A function; most often a pass check.
+fn function(prng: &mut Prng) -> Function {
+    use Function::*;
+    prng.pick(&[Pass, Pass, Pass, Pass, Submit, Submit, Session, Refusal])
+}
+
+/// A pass number, rarely past the count.
+fn pass_number(input: &Input, prng: &mut Prng) -> u32 {
+    let passes = input.session.len().saturating_sub(HEADER_LEN) / PASS_LEN;
+    match prng.below(20) {
+        0 => prng.bits() as u32,
+        1 => passes as u32,
+        _ => prng.below(passes as u32 + 1),
+    }
+}
+
+/// Overwrites a u32 at a place that has one.
+fn put(bytes: &mut [u8], at: usize, value: u32) {
+    if let Some(field) = bytes.get_mut(at..at + 4) {
+        field.copy_from_slice(&value.to_le_bytes());
+    }
+}
+
+/// The start of a random pass row, counted from the file's end.
+fn some_pass(session: &[u8], prng: &mut Prng) -> Option<usize> {
+    let passes = session.len().saturating_sub(HEADER_LEN) / PASS_LEN;
+    let back = prng.below(passes.max(1) as u32) as usize + 1;
+    session.len().checked_sub(back * PASS_LEN)
+}
+
+/// A field of a pass row becomes a small number, or none.
+fn pass_field(session: &mut [u8], prng: &mut Prng) {
+    let value = match prng.below(10) {
+        0 => u32::MAX,
+        1 => prng.bits() as u32,
+        2..5 => prng.below(16),
+        _ => prng.below(4),
+    };
+    let field = match prng.below(3) {
+        0 => prng.below(14),
+        _ => 14 + 14 * prng.below(8) + prng.below(6),
+    };
+    if let Some(start) = some_pass(session, prng) {
+        put(session, start + 4 * field as usize, value);
+    }
+}
+
+/// One pass row is overwritten by another.
+fn move_pass(session: &mut [u8], prng: &mut Prng) {
+    let (from, to) = (some_pass(session, prng), some_pass(session, prng));
+    if let (Some(from), Some(to)) = (from, to) {
+        session.copy_within(from..from + PASS_LEN, to);
+    }
+}
+
+/// One field anywhere is overwritten by another.
+fn copy_field(session: &mut [u8], prng: &mut Prng) {
+    let fields = (session.len() / 4) as u32;
+    if fields > 0 {
+        let from = 4 * prng.below(fields) as usize;
+        let to = 4 * prng.below(fields) as usize;
+        session.copy_within(from..from + 4, to);
+    }
+}
+
+/// A count or a record's field of a lent list becomes another number.
+fn list_field(lists: &mut Lists, prng: &mut Prng) {
+    let list = match prng.below(3) {
+        0 => &mut lists.discards,
+        1 => &mut lists.actions,
+        _ => &mut lists.clears,
+    };
+    let fields = (list.len() / 4).clamp(1, 30) as u32;
+    let field = if prng.chance(40) {
+        0
+    } else {
+        prng.below(fields)
+    };
+    let value = match prng.below(8) {
+        0 => prng.bits() as u32,
+        1 => prng.pick(&[63, 64, 65, 79, 80, 81, 511, 512, 513]),
+        _ => prng.below(4),
+    };
+    put(list, 4 * field as usize, value);
+}
+
+/// A list gets about as many records of one surface as it has room for.
+fn fill_list(lists: &mut Lists, prng: &mut Prng) {
+    let surface = [0, 0, prng.below(2)];
+    let action = [0, 0, 1, 0, 1, prng.below(2)];
+    let fewer = prng.below(12) as usize;
+    let surfaces = |room: usize| (0..room - fewer).map(|_| surface);
+    match prng.below(3) {
+        0 if lists.discards.len() >= DISCARDS_LEN => {
+            put_records(&mut lists.discards, surfaces(DISCARDS));
+        }
+        1 if lists.actions.len() >= ACTIONS_LEN => {
+            put_records(&mut lists.actions, (0..ACTIONS - fewer).map(|_| action));
+        }
+        2 if lists.clears.len() >= CLEARS_LEN => {
+            put_records(&mut lists.clears, surfaces(CLEARS));
+        }
+        _ => (),
+    }
+}
+
+/// A status byte becomes another number.
+fn status_byte(status: &mut [u8], prng: &mut Prng) {
+    let end = status.len().min(prng.pick(&[4, 64, 5000])) as u32;
+    if end > 0 {
+        let at = prng.below(end) as usize;
+        status[at] = prng.pick(&[0, 1, 2, 3, 4, 255]);
+    }
+}
+
+/// A lent buffer gets another length, most often the right one.
+fn length(input: &mut Input, prng: &mut Prng) {
+    let lists = &mut input.lists;
+    let (part, right) = match prng.below(5) {
+        0 => (&mut lists.discards, DISCARDS_LEN),
+        1 => (&mut lists.actions, ACTIONS_LEN),
+        2 => (&mut lists.clears, CLEARS_LEN),
+        3 => (&mut lists.status, STATUS_LEN),
+        _ => {
+            input.rows = prng.pick(&[ROWS_LEN, ROWS_LEN, ROWS_LEN + 1, ROWS_LEN - 1, 0]);
+            return;
+        }
+    };
+    let short = prng.below(right as u32) as usize;
+    part.resize(prng.pick(&[right, right, right + 1, right - 1, short]), 0);
+}

@@ -1,0 +1,193 @@
+//! Calls on lent buffers that are one byte short, and on counts, records and status bytes that are
+//! off by one. The model says what each should answer; a refusal leaves every byte.
+
+use std::collections::BTreeMap;
+use std::fmt;
+
+use interface::{u32_at, Desk, Lists, ACTIONS_LEN, CLEARS_LEN, DISCARDS_LEN, STATUS_LEN};
+use sessions::damage;
+use sessions::random::Prng;
+use sessions::reader;
+
+use crate::calls::{difference, make, Call};
+use crate::reference::Model;
+
+/// How many such calls were made, and how often each number was answered.
+#[derive(Clone, Debug, Default)]
+pub struct Seen {
+    pub calls: u64,
+    pub by_number: BTreeMap<u32, u64>,
+}
+
+impl fmt::Display for Seen {
+    fn fmt(&self, f: &mut fmt::Formatter) -> fmt::Result {
+        writeln!(f, "calls on changed lent buffers {}", self.calls)?;
+        for (number, count) in &self.by_number {
+            writeln!(f, "  answered {number}: {count}")?;
+        }
+        Ok(())
+    }
+}
+
+/// Most records that are changed at one point of a session.
+const MOST_RECORDS: usize = 16;
+
+/// Holds the calls at one point of a session, for changed buffers and for pass numbers past the
+/// count.
+pub fn hold(
+    desk: &dyn Desk,
+    bytes: &[u8],
+    states: &[Lists],
+    prng: &mut Prng,
+    seen: &mut Seen,
+) -> Result<(), String> {
+    if states.is_empty() {
+        return Ok(());
+    }
+    let at = prng.below(states.len() as u32);
+    let lists = &states[at as usize];
+    let surfaces = reader::read(bytes).map_or(0, |s| reader::surfaces(&s) as usize);
+    for (name, changed) in changed(lists, surfaces, prng) {
+        for call in [Call::Pass(at), Call::Submit] {
+            one(desk, bytes, call, &changed, seen).map_err(|e| format!("{name}: {e}"))?;
+        }
+    }
+    for past in [states.len() as u32, states.len() as u32 + 1, u32::MAX] {
+        one(desk, bytes, Call::Pass(past), lists, seen)?;
+    }
+    damaged_too(desk, bytes, lists, prng, seen)
+}
+
+/// On a damaged session a short buffer is 6 before all else, a wrong record only after 4.
+fn damaged_too(
+    desk: &dyn Desk,
+    bytes: &[u8],
+    lists: &Lists,
+    prng: &mut Prng,
+    seen: &mut Seen,
+) -> Result<(), String> {
+    let damaged = damage::random(bytes, prng);
+    let mut wrong = lists.clone();
+    wrong.discards[..4].copy_from_slice(&65u32.to_le_bytes());
+    let mut short = lists.clone();
+    short.status.truncate(STATUS_LEN - 1);
+    for lists in [&wrong, &short] {
+        for call in [Call::Pass(0), Call::Submit] {
+            one(desk, &damaged, call, lists, seen)?;
+        }
+    }
+    Ok(())
+}
+
+/// One call against the model.
+fn one(
+    desk: &dyn Desk,
+    bytes: &[u8],
+    call: Call,
+    lists: &Lists,
+    seen: &mut Seen,
+) -> Result<(), String> {
+    let expected = make(&Model, bytes, call, lists).expect("the model keeps to the interface");
+    let got = make(desk, bytes, call, lists)?;
+    seen.calls += 1;
+    *seen.by_number.entry(expected.number()).or_default() += 1;
+    match difference(lists, &expected, &got) {
+        None => Ok(()),
+        Some(wrong) => Err(format!("{call:?}\n{wrong}")),
+    }
+}
+
+/// The buffers with one change each, and what it is.
+fn changed(lists: &Lists, surfaces: usize, prng: &mut Prng) -> Vec<(String, Lists)> {
+    let mut all = short(lists);
+    all.extend(counts(lists));
+    all.extend(records(lists, prng));
+    all.extend(status_bytes(lists, surfaces, prng));
+    all
+}
+
+/// The three lists by name.
+const LISTS: [(&str, List); 3] = [
+    ("discards", |l| &mut l.discards),
+    ("actions", |l| &mut l.actions),
+    ("clears", |l| &mut l.clears),
+];
+
+/// One of the buffers.
+type List = fn(&mut Lists) -> &mut Vec<u8>;
+
+/// Each buffer one byte short, and empty.
+fn short(lists: &Lists) -> Vec<(String, Lists)> {
+    let needed: [(&str, List, usize); 4] = [
+        (LISTS[0].0, LISTS[0].1, DISCARDS_LEN),
+        (LISTS[1].0, LISTS[1].1, ACTIONS_LEN),
+        (LISTS[2].0, LISTS[2].1, CLEARS_LEN),
+        ("status", |l| &mut l.status, STATUS_LEN),
+    ];
+    let mut all = Vec::new();
+    for (name, list, needed) in needed {
+        for length in [needed - 1, 0] {
+            let mut shorter = lists.clone();
+            list(&mut shorter).truncate(length);
+            all.push((format!("{length} bytes of {name}"), shorter));
+        }
+    }
+    all
+}
+
+/// Each count off by one, one past the room, and as great as can be.
+fn counts(lists: &Lists) -> Vec<(String, Lists)> {
+    let mut all = Vec::new();
+    for ((name, list), count) in LISTS.into_iter().zip(lists.counts()) {
+        let (less, more) = (count.wrapping_sub(1), count.wrapping_add(1));
+        for other in [less, more, 64, 65, 80, 81, 512, 513, u32::MAX] {
+            let mut changed = lists.clone();
+            list(&mut changed)[..4].copy_from_slice(&other.to_le_bytes());
+            all.push((format!("count {other} of {name}"), changed));
+        }
+    }
+    all
+}
+
+/// Fields of records off by one: all of them, or a random choice where there are many.
+fn records(lists: &Lists, prng: &mut Prng) -> Vec<(String, Lists)> {
+    let mut places: Vec<(usize, usize)> = Vec::new();
+    for (list, count) in lists.counts().into_iter().enumerate() {
+        let fields = if list == 1 { 6 } else { 3 };
+        places.extend((0..count as usize * fields).map(|field| (list, 4 + 4 * field)));
+    }
+    while places.len() > MOST_RECORDS {
+        places.swap_remove(prng.below(places.len() as u32) as usize);
+    }
+    let mut all = Vec::new();
+    for (list, at) in places {
+        let (name, part) = LISTS[list];
+        for step in [-1, 1] {
+            let mut changed = lists.clone();
+            let field = &mut part(&mut changed)[at..at + 4];
+            let value = u32_at(field, 0).wrapping_add_signed(step);
+            field.copy_from_slice(&value.to_le_bytes());
+            all.push((format!("{name}, byte {at}: {value}"), changed));
+        }
+    }
+    all
+}
+
+/// A surface's status byte off by one and unlawful; the byte past the last surface unlawful.
+fn status_bytes(lists: &Lists, surfaces: usize, prng: &mut Prng) -> Vec<(String, Lists)> {
+    let mut places = vec![(surfaces, 255)];
+    if surfaces > 0 {
+        for at in [0, surfaces - 1, prng.below(surfaces as u32) as usize] {
+            let byte = lists.status[at];
+            places.extend([byte.wrapping_sub(1), byte + 1, 2, 4, 255].map(|b| (at, b)));
+        }
+    }
+    let within = places.into_iter().filter(|(at, _)| *at < STATUS_LEN);
+    within
+        .map(|(at, byte)| {
+            let mut changed = lists.clone();
+            changed.status[at] = byte;
+            (format!("status byte {at}: {byte}"), changed)
+        })
+        .collect()
+}

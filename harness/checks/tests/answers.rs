@@ -1,0 +1,60 @@
+//! The committed list of answers: how it was made, its size, what it shows.
+
+use std::collections::BTreeMap;
+use std::fs;
+
+use checks::answers::{from_bytes, list, replay, to_bytes, Record};
+use checks::examples::repository;
+use checks::reference::Model;
+
+/// The committed list.
+fn committed() -> Vec<u8> {
+    fs::read(repository("harness/answers/answers.bin")).unwrap()
+}
+
+#[test]
+fn it_is_what_its_seed_makes() {
+    assert!(to_bytes(&list(9_001, 510)) == committed());
+}
+
+#[test]
+fn it_has_500_sessions_and_is_small() {
+    let bytes = committed();
+    assert!(bytes.len() < 600_000, "{}", bytes.len());
+    let records = from_bytes(&bytes).unwrap();
+    assert!(records.len() >= 500);
+    assert!(to_bytes(&records) == bytes);
+    assert_eq!(records[0].session.len(), 1112);
+    assert_eq!(from_bytes(&bytes[..bytes.len() - 1]), None);
+}
+
+#[test]
+fn it_shows_every_number_that_is_compared() {
+    let mut seen: BTreeMap<u32, u32> = BTreeMap::new();
+    for record in from_bytes(&committed()).unwrap() {
+        match model::run(&record.session) {
+            Err(number) => *seen.entry(number).or_default() += 1,
+            Ok(rows) => {
+                for row in rows.iter().filter(|row| !row.reply.withheld()) {
+                    *seen.entry(row.reply.refusal).or_default() += 1;
+                }
+            }
+        }
+    }
+    let compared = compare::numbers_of_files().into_iter();
+    for number in compared.filter(|n| ![5, 48, 49, 50].contains(n)) {
+        let times = seen.get(&number).unwrap_or(&0);
+        assert!(*times >= 3, "number {number}: {times}\n{seen:?}");
+    }
+    assert!(seen[&0] > 150, "{seen:?}");
+}
+
+#[test]
+fn a_replay_by_the_model_agrees_and_a_changed_word_is_seen() {
+    for record in from_bytes(&committed()).unwrap() {
+        assert_eq!(replay(&Model, &record), record.words);
+        let words = record.words.iter().map(|word| word ^ 1).collect();
+        let wrong = Record { words, ..record };
+        assert_ne!(replay(&Model, &wrong), wrong.words);
+    }
+}

@@ -1,0 +1,118 @@
+//! The files of `examples/`: each binary is what its text makes, and is answered as its first
+//! lines say.
+
+use std::collections::BTreeSet;
+use std::fs;
+use std::path::{Path, PathBuf};
+
+use compare::{compare_file, numbers_of_files, Counts};
+use sessions::text;
+
+/// The folder of the examples.
+fn folder() -> PathBuf {
+    Path::new(env!("CARGO_MANIFEST_DIR")).join("../../examples")
+}
+
+/// The names of the files with an ending, without it.
+fn names(ending: &str) -> BTreeSet<String> {
+    let entries = fs::read_dir(folder()).unwrap();
+    let paths = entries.map(|entry| entry.unwrap().path());
+    paths
+        .filter(|path| path.extension().is_some_and(|e| e == ending))
+        .map(|path| path.file_stem().unwrap().to_str().unwrap().to_string())
+        .collect()
+}
+
+/// An example: its name, text and bytes.
+struct Example {
+    name: String,
+    text: String,
+    bytes: Vec<u8>,
+}
+
+fn examples() -> Vec<Example> {
+    let read = |name: String| Example {
+        text: fs::read_to_string(folder().join(format!("{name}.layer"))).unwrap(),
+        bytes: fs::read(folder().join(format!("{name}.session"))).unwrap(),
+        name,
+    };
+    names("layer").into_iter().map(read).collect()
+}
+
+/// The lines that a text says `deskcheck` prints last.
+fn expected(text: &str) -> Vec<&str> {
+    text.lines().filter_map(|l| l.strip_prefix("#= ")).collect()
+}
+
+#[test]
+fn each_text_has_its_binary() {
+    assert_eq!(names("layer"), names("session"));
+    for example in examples() {
+        let made = text::to_bytes(&example.text).unwrap();
+        assert!(made == example.bytes, "{} is out of date", example.name);
+    }
+}
+
+#[test]
+fn each_text_starts_with_an_explanation() {
+    for example in examples() {
+        let first = example.text.lines().next().unwrap();
+        assert!(
+            first.starts_with("# ") && first.len() > 20,
+            "{}",
+            example.name
+        );
+        assert!(!expected(&example.text).is_empty(), "{}", example.name);
+    }
+}
+
+#[test]
+fn the_model_prints_the_lines_that_each_text_says() {
+    for example in examples() {
+        let printed = model::deskcheck(&example.bytes);
+        let lines: Vec<&str> = printed.lines().collect();
+        let expected = expected(&example.text);
+        assert!(lines.ends_with(&expected), "{}: {printed}", example.name);
+        assert!(lines.len() <= 5 || example.name != "first");
+    }
+}
+
+#[test]
+fn the_rust_agrees_on_each() {
+    let mut counts = Counts::default();
+    for example in examples() {
+        if let Err(difference) = compare_file(&example.bytes, &mut counts) {
+            panic!("{}: {difference}", example.name);
+        }
+    }
+    assert_eq!(counts.files as usize, names("layer").len());
+}
+
+#[test]
+fn each_number_has_an_example_that_ends_with_it() {
+    for number in numbers_of_files() {
+        let bytes = fs::read(folder().join(format!("refusal-{number}.session"))).unwrap();
+        let last = match (oracle::run(&bytes), model::run(&bytes)) {
+            (Ok(rust), Ok(model)) => {
+                let last = |rows: &[sessions::reply::Judged]| rows.last().unwrap().reply.refusal;
+                assert_eq!(last(&rust), last(&model));
+                last(&model)
+            }
+            (rust, model) => {
+                assert_eq!(rust.err(), model.clone().err());
+                model.unwrap_err()
+            }
+        };
+        assert_eq!(last, number);
+    }
+}
+
+#[test]
+fn document_01s_example_has_1112_bytes() {
+    let bytes = fs::read(folder().join("first.session")).unwrap();
+    assert_eq!(bytes.len(), 1112);
+    let lines = "0 0 17 17 4 4 1 0 1\n1 0 17 17 4 4 1 1 0\n";
+    assert_eq!(model::deskcheck(&bytes), lines);
+    let rust = sessions::reply::deskcheck_lines(&oracle::run(&bytes));
+    assert_eq!(rust, lines);
+}

@@ -1,0 +1,97 @@
+//! Discards, actions and clears: what each attachment registers.
+
+use sessions::reply::{Action, Kind, Lists, Surface};
+
+use crate::read::{Load, Store, View};
+
+/// What an attachment asks of the lists.
+#[derive(Clone, Copy, Debug)]
+pub struct Plan {
+    pub action: Option<Kind>,
+    pub discards: bool,
+}
+
+/// A load needs its memory, a store fills it; a discard is listed.
+pub fn plan(load: Load, store: Store) -> Plan {
+    Plan {
+        action: match (load, store) {
+            (Load::Load, _) => Some(Kind::Needing),
+            (_, Store::Store) => Some(Kind::Implicit),
+            _ => None,
+        },
+        discards: store == Store::Discard,
+    }
+}
+
+/// The action of a view's range.
+pub fn action(view: &View, kind: Kind) -> Action {
+    Action {
+        kind,
+        texture: view.texture,
+        mips: view.mips,
+        layers: view.layers,
+    }
+}
+
+/// The lists while a pass is recorded.
+pub struct Recording {
+    pub lists: Lists,
+    pub clears: Vec<Surface>,
+    /// The greatest length that the discard list has had.
+    pub most_discards: usize,
+}
+
+impl Recording {
+    /// A recording that starts with the lists as found.
+    pub fn new(lists: &Lists) -> Self {
+        Recording {
+            lists: lists.clone(),
+            clears: Vec::new(),
+            most_discards: lists.discards.len(),
+        }
+    }
+
+    /// Records an attachment: first its action, then its discard.
+    pub fn attach(&mut self, view: &View, plan: Plan) {
+        if let Some(kind) = plan.action {
+            self.register(action(view, kind));
+        }
+        if plan.discards {
+            self.lists.discards.push(Surface {
+                texture: view.texture,
+                mip: view.mips.0,
+                layer: view.layers.0,
+            });
+            let length = self.lists.discards.len();
+            self.most_discards = self.most_discards.max(length);
+        }
+    }
+
+    /// Matching discards leave the list; a needing action returns each as a clear and adds an
+    /// implicit action for it.
+    fn register(&mut self, action: Action) {
+        self.lists.actions.push(action);
+        let held = std::mem::take(&mut self.lists.discards);
+        for discard in held {
+            if !covers(&action, &discard) {
+                self.lists.discards.push(discard);
+            } else if action.kind == Kind::Needing {
+                self.clears.push(discard);
+                self.lists.actions.push(Action {
+                    kind: Kind::Implicit,
+                    texture: discard.texture,
+                    mips: (discard.mip, discard.mip + 1),
+                    layers: (discard.layer, discard.layer + 1),
+                });
+            }
+        }
+    }
+}
+
+/// Whether a surface lies in an action's range.
+pub fn covers(action: &Action, surface: &Surface) -> bool {
+    let within = |at: u32, range: (u32, u32)| range.0 <= at && at < range.1;
+    action.texture == surface.texture
+        && within(surface.mip, action.mips)
+        && within(surface.layer, action.layers)
+}

@@ -1,0 +1,348 @@
+//! "The session, from one file": bytes to records, and the numbers 1 to 5.
+
+use sessions::layout::*;
+
+/// A readable session.
+#[derive(Clone, Debug)]
+pub struct Session {
+    pub max_colours: u32,
+    pub max_views: u32,
+    pub flags: u32,
+    pub textures: Vec<Texture>,
+    pub views: Vec<View>,
+    pub passes: Vec<PassRow>,
+}
+
+/// What a texture row says of its surfaces.
+#[derive(Clone, Copy, Debug)]
+pub struct Texture {
+    pub format: u32,
+    pub dimension: u32,
+    pub width: u32,
+    pub height: u32,
+    pub depth: u32,
+    pub layers: u32,
+    pub mips: u32,
+    pub samples: u32,
+    pub usage: u32,
+}
+
+/// A view with what it takes from its texture.
+#[derive(Clone, Copy, Debug)]
+pub struct View {
+    pub number: u32,
+    pub texture: u32,
+    pub dimension: u32,
+    pub mips: (u32, u32),
+    pub layers: (u32, u32),
+    pub usage: u32,
+    pub resolvable: bool,
+    pub format: u32,
+    pub samples: u32,
+    pub width: u32,
+    pub height: u32,
+    pub mip_depth: u32,
+}
+
+/// A pass row: its ends-buffer field, and the pass unless a field refuses it as 5.
+#[derive(Clone, Debug)]
+pub struct PassRow {
+    pub ends: u32,
+    pub pass: Option<Pass>,
+}
+
+/// A pass.
+#[derive(Clone, Debug)]
+pub struct Pass {
+    pub mask: u32,
+    pub depth_stencil: Option<DepthStencil>,
+    pub colours: Vec<Option<Colour>>,
+}
+
+/// A load operation.
+#[derive(Clone, Copy, Debug, PartialEq, Eq)]
+pub enum Load {
+    Load,
+    Clear,
+    DontCare,
+}
+
+/// A store operation.
+#[derive(Clone, Copy, Debug, PartialEq, Eq)]
+pub enum Store {
+    Store,
+    Discard,
+}
+
+/// The depth-stencil part of a pass.
+#[derive(Clone, Copy, Debug)]
+pub struct DepthStencil {
+    pub view: View,
+    pub depth: Channel,
+    pub stencil: Channel,
+}
+
+/// A channel as given.
+#[derive(Clone, Copy, Debug)]
+pub struct Channel {
+    pub load: Option<Load>,
+    pub store: Option<Store>,
+    pub read_only: bool,
+    pub clear: Option<u32>,
+}
+
+/// A filled colour slot.
+#[derive(Clone, Copy, Debug)]
+pub struct Colour {
+    pub view: View,
+    pub slice: Option<u32>,
+    pub resolve: Option<View>,
+    pub load: Load,
+    pub store: Store,
+    pub clear: [u64; 4],
+}
+
+/// The u32 at an offset; the caller knows that the file reaches that far.
+fn u32_at(bytes: &[u8], at: usize) -> u32 {
+    let mut four = [0; 4];
+    four.copy_from_slice(&bytes[at..at + 4]);
+    u32::from_le_bytes(four)
+}
+
+/// The u64 at an offset.
+fn u64_at(bytes: &[u8], at: usize) -> u64 {
+    u64::from(u32_at(bytes, at)) + (u64::from(u32_at(bytes, at + 4)) << 32)
+}
+
+/// Reads a session, or says its refusal.
+pub fn session(bytes: &[u8]) -> Result<Session, u32> {
+    if bytes.len() < HEADER_LEN || u32_at(bytes, HEADER_LEN - 4) as usize != bytes.len() {
+        return Err(1);
+    }
+    let h = |field: usize| u32_at(bytes, 4 * field);
+    let lawful = [
+        h(0) <= MAX_TEXTURES,
+        h(2) <= MAX_VIEWS,
+        h(4) <= MAX_PASSES,
+        (1..=8).contains(&h(6)),
+        h(7) <= 32,
+        h(8) <= 15,
+    ];
+    if lawful.contains(&false) {
+        return Err(2);
+    }
+    let views_at = HEADER_LEN + h(0) as usize * TEXTURE_LEN;
+    let passes_at = views_at + h(2) as usize * VIEW_LEN;
+    let end = passes_at + h(4) as usize * PASS_LEN;
+    let offsets = [h(1) as usize, h(3) as usize, h(5) as usize, h(9) as usize];
+    if offsets != [HEADER_LEN, views_at, passes_at, end] {
+        return Err(2);
+    }
+    let mut session = Session {
+        max_colours: h(6),
+        max_views: h(7),
+        flags: h(8),
+        textures: Vec::new(),
+        views: Vec::new(),
+        passes: Vec::new(),
+    };
+    for i in 0..h(0) as usize {
+        let row = texture(bytes, HEADER_LEN + i * TEXTURE_LEN).ok_or(3u32)?;
+        session.textures.push(row);
+    }
+    if session.surfaces() > MAX_SURFACES as usize {
+        return Err(3);
+    }
+    for i in 0..h(2) as usize {
+        let row = view(bytes, views_at + i * VIEW_LEN, &session.textures).ok_or(4u32)?;
+        session.views.push(View {
+            number: i as u32,
+            ..row
+        });
+    }
+    for i in 0..h(4) as usize {
+        let at = passes_at + i * PASS_LEN;
+        session.passes.push(PassRow {
+            ends: u32_at(bytes, at + 8),
+            pass: pass(bytes, at, &session.views),
+        });
+    }
+    Ok(session)
+}
+
+impl Session {
+    /// Whether a header flag is set.
+    pub fn has(&self, flag: u32) -> bool {
+        self.flags & flag != 0
+    }
+
+    /// Surfaces in all.
+    pub fn surfaces(&self) -> usize {
+        self.textures
+            .iter()
+            .map(|t| (t.mips * t.layers) as usize)
+            .sum()
+    }
+
+    /// A buffer ends with a flag of 1, and with the last pass.
+    pub fn ends_buffer(&self, i: usize) -> bool {
+        self.passes[i].ends == 1 || i == self.passes.len() - 1
+    }
+}
+
+/// A texture row, unless a field refuses it.
+fn texture(bytes: &[u8], at: usize) -> Option<Texture> {
+    let f: [u32; 8] = std::array::from_fn(|i| u32_at(bytes, at + 4 * i));
+    let [format, dimension, width, height, depth, mips, samples, usage] = f;
+    let size = 1..=16384;
+    let lawful = matches!(format, 1..=14 | 20..=25)
+        && matches!(dimension, 1..=3)
+        && (format < 20 || dimension == 2)
+        && size.contains(&width)
+        && size.contains(&height)
+        && matches!(depth, 1..=32)
+        && matches!(mips, 1..=15)
+        && [1, 2, 4, 8, 16].contains(&samples)
+        && usage < 64;
+    lawful.then_some(Texture {
+        format,
+        dimension,
+        width,
+        height,
+        depth,
+        layers: if dimension == 3 { 1 } else { depth },
+        mips,
+        samples,
+        usage,
+    })
+}
+
+/// A view row, unless a field refuses it.
+fn view(bytes: &[u8], at: usize, textures: &[Texture]) -> Option<View> {
+    let f: [u32; 8] = std::array::from_fn(|i| u32_at(bytes, at + 4 * i));
+    let [texture, dimension, mip, mips, layer, layers, usage, resolvable] = f;
+    let t = textures.get(texture as usize)?;
+    let pair = match t.dimension {
+        1 => dimension == D1,
+        2 => (D2..=CUBE_ARRAY).contains(&dimension),
+        _ => dimension == D3,
+    };
+    let mips_end = mip.checked_add(mips)?;
+    let layers_end = layer.checked_add(layers)?;
+    let lawful = pair
+        && mips > 0
+        && layers > 0
+        && mips_end <= t.mips
+        && layers_end <= t.layers
+        && usage & t.usage == usage
+        && resolvable < 2;
+    lawful.then(|| View {
+        number: 0,
+        texture,
+        dimension,
+        mips: (mip, mips_end),
+        layers: (layer, layers_end),
+        usage,
+        resolvable: resolvable == 1,
+        format: t.format,
+        samples: t.samples,
+        width: mip_size(t.width, mip),
+        height: mip_size(t.height, mip),
+        mip_depth: mip_size(t.depth, mip),
+    })
+}
+
+/// max(1, size divided by 2 to the mip, rounded down).
+fn mip_size(size: u32, mip: u32) -> u32 {
+    (size / 2u32.pow(mip)).max(1)
+}
+
+/// A field that is 0 or 1.
+fn flag(value: u32) -> Option<bool> {
+    match value {
+        0 => Some(false),
+        1 => Some(true),
+        _ => None,
+    }
+}
+
+/// A pass row, unless a field refuses it as 5.
+fn pass(bytes: &[u8], at: usize, views: &[View]) -> Option<Pass> {
+    let count = u32_at(bytes, at) as usize;
+    flag(u32_at(bytes, at + 8))?;
+    if count > SLOTS {
+        return None;
+    }
+    let depth_stencil = match u32_at(bytes, at + 12) {
+        NONE => None,
+        number => Some(DepthStencil {
+            view: *views.get(number as usize)?,
+            depth: channel(bytes, at + 16)?,
+            stencil: channel(bytes, at + 16 + CHANNEL_LEN)?,
+        }),
+    };
+    let slot = |k: usize| colour(bytes, at + PASS_FRONT_LEN + k * SLOT_LEN, views);
+    Some(Pass {
+        mask: u32_at(bytes, at + 4),
+        depth_stencil,
+        colours: (0..count).map(slot).collect::<Option<Vec<_>>>()?,
+    })
+}
+
+/// A channel, unless a field refuses it.
+fn channel(bytes: &[u8], at: usize) -> Option<Channel> {
+    let read_only = flag(u32_at(bytes, at + 8))?;
+    let given = flag(u32_at(bytes, at + 12))?;
+    Some(Channel {
+        load: match u32_at(bytes, at) {
+            NO_LOAD => None,
+            value => Some(load(value)?),
+        },
+        store: match u32_at(bytes, at + 4) {
+            NO_STORE => None,
+            value => Some(store(value)?),
+        },
+        read_only,
+        clear: given.then(|| u32_at(bytes, at + 16)),
+    })
+}
+
+/// A load operation by its number.
+fn load(value: u32) -> Option<Load> {
+    match value {
+        LOAD => Some(Load::Load),
+        CLEAR => Some(Load::Clear),
+        DONT_CARE => Some(Load::DontCare),
+        _ => None,
+    }
+}
+
+/// A store operation by its number.
+fn store(value: u32) -> Option<Store> {
+    match value {
+        STORE => Some(Store::Store),
+        DISCARD => Some(Store::Discard),
+        _ => None,
+    }
+}
+
+/// A colour slot, empty or filled, unless a field refuses it.
+fn colour(bytes: &[u8], at: usize, views: &[View]) -> Option<Option<Colour>> {
+    let number = u32_at(bytes, at);
+    if number == NONE {
+        return Some(None);
+    }
+    let given = flag(u32_at(bytes, at + 4))?;
+    let resolve = match u32_at(bytes, at + 12) {
+        NONE => None,
+        target => Some(*views.get(target as usize)?),
+    };
+    Some(Some(Colour {
+        view: *views.get(number as usize)?,
+        slice: given.then(|| u32_at(bytes, at + 8)),
+        resolve,
+        load: load(u32_at(bytes, at + 16))?,
+        store: store(u32_at(bytes, at + 20))?,
+        clear: std::array::from_fn(|i| u64_at(bytes, at + 24 + 8 * i)),
+    }))
+}

@@ -1,0 +1,48 @@
+//! Submission: what a buffer's actions and discards leave in the status bytes.
+
+use sessions::reply::{Kind, Lists, Surface};
+
+use crate::lists::covers;
+use crate::read::Session;
+
+/// Status bit: the surface is filled.
+const FILLED: u8 = 1;
+/// Status bit: the last submission cleared the surface.
+const CLEARED: u8 = 2;
+
+/// Every surface by texture, mip and layer: the order of the status bytes.
+pub fn surfaces(session: &Session) -> Vec<Surface> {
+    let mut all = Vec::new();
+    for (texture, t) in session.textures.iter().enumerate() {
+        for mip in 0..t.mips {
+            for layer in 0..t.layers {
+                all.push(Surface {
+                    texture: texture as u32,
+                    mip,
+                    layer,
+                });
+            }
+        }
+    }
+    all
+}
+
+/// Runs the actions in order, then marks discards empty; bytes past the last surface stay.
+pub fn submit(session: &Session, lists: &Lists, status: &mut [u8]) {
+    for (surface, byte) in surfaces(session).iter().zip(status) {
+        *byte = after(surface, *byte, lists);
+    }
+}
+
+/// The status byte of one surface after the submission.
+fn after(surface: &Surface, before: u8, lists: &Lists) -> u8 {
+    let mut filled = before & FILLED != 0;
+    let mut cleared = false;
+    for action in lists.actions.iter().filter(|a| covers(a, surface)) {
+        cleared |= action.kind == Kind::Needing && !filled;
+        filled = true;
+    }
+    filled &= !lists.discards.contains(surface);
+    let bit = |set: bool, bit: u8| if set { bit } else { 0 };
+    bit(filled, FILLED) | bit(cleared, CLEARED)
+}

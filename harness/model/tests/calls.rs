@@ -1,0 +1,197 @@
+//! Document 01's calls on lent lists: number 6, refusals that leave everything, the life of a
+//! status byte, and what is printed.
+
+use model::{check_pass, deskcheck, run, submit, Lent};
+use sessions::reply::{Action, Kind, Surface};
+use sessions::text;
+
+const A: Surface = Surface {
+    texture: 0,
+    mip: 0,
+    layer: 0,
+};
+
+/// One texture, one view; Clear with Discard, then Load with Store.
+fn example() -> Vec<u8> {
+    let text = "texture\nview\npass\n  colour view=0 load=clear store=discard\n\
+                pass\n  colour view=0 load=load store=store";
+    text::to_bytes(text).unwrap()
+}
+
+#[test]
+fn document_01s_example() {
+    let bytes = example();
+    assert_eq!(bytes.len(), 1112);
+    assert_eq!(
+        deskcheck(&bytes),
+        "0 0 17 17 4 4 1 0 1\n1 0 17 17 4 4 1 1 0\n"
+    );
+    assert_eq!(deskcheck(&[]), "session 1\n");
+    assert_eq!(deskcheck(&text::to_bytes("texture").unwrap()), "");
+}
+
+/// Fresh lists, changed.
+fn lent(change: impl Fn(&mut Lent)) -> Lent {
+    let mut lent = Lent::fresh();
+    change(&mut lent);
+    lent
+}
+
+/// The number that both calls answer; a refusal must leave everything lent.
+fn both(bytes: &[u8], lent: &Lent) -> u32 {
+    let mut checked = lent.clone();
+    let number = check_pass(bytes, 0, &mut checked).refusal;
+    let mut submitted = lent.clone();
+    assert_eq!(submit(bytes, &mut submitted), number);
+    if number != 0 {
+        assert_eq!((&checked, &submitted), (lent, lent));
+    }
+    number
+}
+
+#[test]
+fn a_short_buffer_is_6_before_all_else() {
+    let short = [
+        lent(|l| l.discard_room = 63),
+        lent(|l| l.action_room = 511),
+        lent(|l| l.clear_room = 79),
+        lent(|l| l.status.truncate(4095)),
+    ];
+    for lent in short {
+        assert_eq!(both(&example(), &lent), 6);
+        assert_eq!(both(&[], &lent), 6, "before number 1");
+    }
+    assert_eq!(both(&example(), &Lent::fresh()), 0);
+}
+
+#[test]
+fn counts_records_and_status_bytes_are_6_after_4() {
+    let other = |texture, mip, layer| Surface {
+        texture,
+        mip,
+        layer,
+    };
+    let action = |texture, mips, layers| Action {
+        kind: Kind::Needing,
+        texture,
+        mips,
+        layers,
+    };
+    let wrong = [
+        lent(|l| l.lists.discards = vec![A; 65]),
+        lent(|l| l.lists.actions = vec![action(0, (0, 1), (0, 1)); 513]),
+        lent(|l| l.clears = vec![A; 81]),
+        lent(|l| l.lists.discards.push(other(1, 0, 0))),
+        lent(|l| l.lists.discards.push(other(0, 1, 0))),
+        lent(|l| l.clears.push(other(0, 0, 1))),
+        lent(|l| l.lists.actions.push(action(1, (0, 1), (0, 1)))),
+        lent(|l| l.lists.actions.push(action(0, (0, 2), (0, 1)))),
+        lent(|l| l.lists.actions.push(action(0, (0, 1), (0, 2)))),
+        lent(|l| l.lists.actions.push(action(0, (0, 1), (0, 0)))),
+        lent(|l| l.status[0] = 4),
+    ];
+    let unreadable = text::to_bytes("texture\nview texture=1").unwrap();
+    for lent in wrong {
+        assert_eq!(both(&example(), &lent), 6);
+        assert_eq!(both(&unreadable, &lent), 4, "4 comes before");
+    }
+    assert_eq!(
+        both(&example(), &lent(|l| l.status[1] = 4)),
+        0,
+        "past the last surface"
+    );
+    assert_eq!(both(&example(), &lent(|l| l.status[0] = 3)), 0);
+    assert_eq!(both(&example(), &lent(|l| l.clears = vec![A; 80])), 0);
+}
+
+#[test]
+fn a_pass_past_the_count_is_5() {
+    let mut lent = Lent::fresh();
+    let reply = check_pass(&example(), 2, &mut lent);
+    assert_eq!((reply.refusal, reply.place), (5, Some(17)));
+    assert_eq!(lent, Lent::fresh());
+}
+
+#[test]
+fn refusal_49_comes_before_50() {
+    let text = "texture layers=2\nview layer=0\nview layer=1\n\
+                pass\n  colour view=0 load=load store=store\n  colour view=1 load=clear store=discard\n\
+                pass\n  colour view=0 load=load store=store\n\
+                pass\n  colour view=1 load=clear store=discard";
+    let bytes = text::to_bytes(text).unwrap();
+    let full = lent(|l| {
+        let held = Surface { layer: 1, ..A };
+        let action = Action {
+            kind: Kind::Implicit,
+            texture: 0,
+            mips: (0, 1),
+            layers: (0, 1),
+        };
+        l.lists.discards = vec![held; 64];
+        l.lists.actions = vec![action; 512];
+    });
+    let number = |pass: usize| check_pass(&bytes, pass, &mut full.clone()).refusal;
+    assert_eq!([number(0), number(1), number(2)], [49, 50, 49]);
+}
+
+#[test]
+fn a_load_with_discard_keeps_the_list_at_64() {
+    let bytes = text::to_bytes("texture\nview\npass\n  colour view=0 load=load store=discard");
+    let mut full = lent(|l| l.lists.discards = vec![A; 64]);
+    let reply = check_pass(&bytes.unwrap(), 0, &mut full);
+    assert_eq!((reply.refusal, reply.clears.len()), (0, 64));
+    assert_eq!(full.lists.discards, [A]);
+    assert_eq!(full.lists.actions.len(), 65);
+    assert_eq!(full.clears.len(), 64);
+}
+
+#[test]
+fn at_most_71_clears_in_one_pass() {
+    let slots: String = (0..8)
+        .map(|k| format!("  colour view=0 slice={k} load=load store=discard\n"))
+        .collect();
+    let text = format!("texture dimension=3 layers=8\nview dimension=D3\npass\n{slots}");
+    let mut full = lent(|l| l.lists.discards = vec![A; 64]);
+    let reply = check_pass(&text::to_bytes(&text).unwrap(), 0, &mut full);
+    assert_eq!(reply.clears.len(), 71);
+}
+
+#[test]
+fn the_life_of_a_status_byte() {
+    let text = "texture\nview\n\
+                pass ends=1\n  colour view=0 load=load store=discard\n\
+                pass ends=1\n  colour view=0 load=load store=store\n\
+                pass ends=1\n  colour view=0 load=load store=store\n\
+                pass ends=1\n  colour view=0 load=clear store=discard\n\
+                pass ends=1\n  colour view=0 load=clear store=store\n\
+                pass ends=1\n";
+    let answer = run(&text::to_bytes(text).unwrap()).unwrap();
+    let status: Vec<u8> = answer
+        .iter()
+        .flat_map(|row| row.submitted.clone())
+        .flatten()
+        .collect();
+    assert_eq!(status, [2, 3, 1, 0, 1, 1]);
+}
+
+#[test]
+fn clears_stay_through_refusals_and_submissions() {
+    let bytes = example();
+    let mut lent = Lent::fresh();
+    check_pass(&bytes, 0, &mut lent);
+    assert_eq!(lent.lists.discards, [A]);
+    check_pass(&bytes, 1, &mut lent);
+    assert_eq!(
+        (lent.clears.as_slice(), lent.lists.discards.len()),
+        (&[A][..], 0)
+    );
+    check_pass(&bytes, 9, &mut lent);
+    submit(&bytes, &mut lent);
+    assert_eq!(lent.clears, [A]);
+    assert!(lent.lists.actions.is_empty());
+    check_pass(&bytes, 0, &mut lent);
+    assert!(
+        lent.clears.is_empty(),
+        "an accepted pass replaces the clears"
+    );
+}

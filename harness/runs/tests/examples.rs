@@ -1,0 +1,65 @@
+//! The examples through the proved library: whole sessions, and every number.
+
+use checks::examples::{numbers, of_number, sessions};
+use checks::whole;
+use desk::{check, check_pass, submit_buffer, Library, Lists};
+
+#[test]
+fn whole_sessions_are_the_models_lines() {
+    let examples = sessions();
+    assert!(examples.len() > 40);
+    for (name, bytes) in examples {
+        assert_eq!(
+            whole::lines(&Library, &bytes),
+            model::deskcheck(&bytes),
+            "{name}"
+        );
+        whole::hold(&Library, &bytes).unwrap_or_else(|wrong| panic!("{name}: {wrong}"));
+    }
+}
+
+#[test]
+fn document_01s_two_lines() {
+    let example = sessions().into_iter().find(|(name, _)| name == "first");
+    let lines = "0 0 17 17 4 4 1 0 1\n1 0 17 17 4 4 1 1 0\n";
+    assert_eq!(whole::lines(&Library, &example.unwrap().1), lines);
+}
+
+#[test]
+fn each_number_is_given_by_its_example() {
+    for number in numbers().into_iter().filter(|n| *n != 6) {
+        let bytes = of_number(number).unwrap();
+        let given = match check(&bytes) {
+            Err(refusal) => refusal,
+            Ok(rows) => rows.last().unwrap()[1],
+        };
+        assert_eq!(given, number);
+    }
+}
+
+#[test]
+fn number_6_is_given_by_a_short_buffer_and_by_a_count() {
+    let bytes = of_number(5).unwrap();
+    let mut short = Lists::fresh();
+    short.clears.pop();
+    let mut count = Lists::fresh();
+    count.discards[0] = 65;
+    for lists in [short, count] {
+        let mut lent = lists.clone();
+        assert_eq!(check_pass(&bytes, 0, &mut lent).number, 6);
+        assert_eq!(submit_buffer(&bytes, &mut lent), 6);
+        assert_eq!(lent, lists);
+    }
+}
+
+#[test]
+fn cleared_lists_are_as_good_as_fresh_ones() {
+    let (_, bytes) = sessions().into_iter().find(|(n, _)| n == "first").unwrap();
+    let mut lists = Lists::fresh();
+    let first = check_pass(&bytes, 0, &mut lists).words();
+    check_pass(&bytes, 1, &mut lists);
+    submit_buffer(&bytes, &mut lists);
+    lists.clear();
+    assert_eq!(lists.counts(), [0; 3]);
+    assert_eq!(check_pass(&bytes, 0, &mut lists).words(), first);
+}

@@ -1,0 +1,15 @@
+//! Session files of document 01: their layout, a reader, a writer, a text form,
+//! and sets of sessions to run: random, enumerated and damaged ones.
+//! Nothing here knows how a pass is judged.
+
+pub mod damage;
+pub mod enumerate;
+pub mod layout;
+pub mod names;
+pub mod random;
+pub mod reader;
+pub mod reply;
+pub mod rows;
+pub mod text;
+
+pub use rows::{Channel, Pass, Session, Slot, Texture, View};

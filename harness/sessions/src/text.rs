@@ -1,0 +1,590 @@
+//! The text form of a session (`*.layer`), to bytes and back.
+//!
+//! A line is a word and `key=value` pairs; `#` starts a comment. A value is a number or a
+//! name of `names`, bits are joined with `+`. What is not said has the default.
+//!
+//! ```text
+//! session flags=strict max-colours=8 max-views=0
+//! texture format=rgba8unorm dimension=2 width=4 height=4 layers=1 mips=1 samples=1 usage=render
+//! view texture=0 dimension=D2 mip=0 mips=1 layer=0 layers=1 usage=render resolvable=1
+//! pass ends=0 mask=0
+//!   depth-stencil view=0
+//!   depth load=clear store=store clear=1.0
+//!   stencil load=clear store=discard clear=257
+//!   colour view=0 slice=3 resolve=1 load=clear store=discard clear=0,0,0,1
+//!   colour                      (an empty slot)
+//! again 3                       (the last texture, view or pass three times more)
+//! header total=41               (header fields that replace the right ones)
+//! length 39                     (the file's first bytes only, or zeros after it)
+//! ```
+//!
+//! A text that starts with `raw` has `bytes` lines of hexadecimal digits and nothing else.
+
+use crate::layout::*;
+use crate::names::*;
+use crate::rows::*;
+
+/// How a field's number is written.
+enum Words {
+    /// A number.
+    Number,
+    /// A number or a name for it.
+    Names(&'static [(u32, &'static str)]),
+    /// A number or names of bits joined with `+`.
+    Bits(&'static [(u32, &'static str)]),
+}
+
+/// A field of a row: its key and how it is written.
+struct Key(&'static str, Words);
+
+/// The header's fields.
+const HEADER_KEYS: &[Key] = &[
+    Key("texture-count", Words::Number),
+    Key("texture-offset", Words::Number),
+    Key("view-count", Words::Number),
+    Key("view-offset", Words::Number),
+    Key("pass-count", Words::Number),
+    Key("pass-offset", Words::Number),
+    Key("max-colours", Words::Number),
+    Key("max-views", Words::Number),
+    Key("flags", Words::Bits(FLAGS)),
+    Key("total", Words::Number),
+];
+
+/// A texture row's fields.
+const TEXTURE_KEYS: &[Key] = &[
+    Key("format", Words::Names(FORMATS)),
+    Key("dimension", Words::Number),
+    Key("width", Words::Number),
+    Key("height", Words::Number),
+    Key("layers", Words::Number),
+    Key("mips", Words::Number),
+    Key("samples", Words::Number),
+    Key("usage", Words::Bits(USAGES)),
+];
+
+/// A view row's fields.
+const VIEW_KEYS: &[Key] = &[
+    Key("texture", Words::Number),
+    Key("dimension", Words::Names(VIEW_DIMENSIONS)),
+    Key("mip", Words::Number),
+    Key("mips", Words::Number),
+    Key("layer", Words::Number),
+    Key("layers", Words::Number),
+    Key("usage", Words::Bits(USAGES)),
+    Key("resolvable", Words::Number),
+];
+
+/// A pass row's own fields; its depth-stencil view stands in a line of its own.
+const PASS_KEYS: &[Key] = &[
+    Key("colours", Words::Number),
+    Key("mask", Words::Number),
+    Key("ends", Words::Number),
+];
+
+/// A channel's fields before its clear value.
+const CHANNEL_KEYS: &[Key] = &[
+    Key("load", Words::Names(LOADS)),
+    Key("store", Words::Names(STORES)),
+    Key("read-only", Words::Number),
+    Key("clear-given", Words::Number),
+];
+
+/// A colour slot's fields before its clear value.
+const SLOT_KEYS: &[Key] = &[
+    Key("view", Words::Names(VIEWS)),
+    Key("slice-given", Words::Number),
+    Key("slice", Words::Number),
+    Key("resolve", Words::Names(VIEWS)),
+    Key("load", Words::Names(LOADS)),
+    Key("store", Words::Names(STORES)),
+];
+
+/// The bytes that a text stands for, or what is wrong with it.
+pub fn to_bytes(text: &str) -> Result<Vec<u8>, String> {
+    let lines = text
+        .lines()
+        .enumerate()
+        .map(|(i, line)| (i + 1, line.split('#').next().unwrap_or("").trim()))
+        .filter(|(_, line)| !line.is_empty());
+    let mut maker = Maker::new();
+    for (number, line) in lines {
+        maker
+            .line(line)
+            .map_err(|wrong| format!("line {number}: {wrong}"))?;
+    }
+    maker.finish()
+}
+
+/// The row that `again` repeats.
+#[derive(Clone, Copy, PartialEq)]
+enum Last {
+    Nothing,
+    Texture,
+    View,
+    Pass,
+}
+
+/// What the lines read so far stand for.
+struct Maker {
+    session: Session,
+    last: Last,
+    /// Colour lines of the last pass.
+    slots: usize,
+    /// Whether these lines count the pass's colours.
+    counted: bool,
+    /// Header fields that replace the right ones, by number.
+    header: Vec<(usize, u32)>,
+    length: Option<usize>,
+    raw: Option<Vec<u8>>,
+}
+
+impl Maker {
+    /// An empty session.
+    fn new() -> Self {
+        Maker {
+            session: Session::new(),
+            last: Last::Nothing,
+            slots: 0,
+            counted: true,
+            header: Vec::new(),
+            length: None,
+            raw: None,
+        }
+    }
+
+    /// Takes one line.
+    fn line(&mut self, line: &str) -> Result<(), String> {
+        let mut words = line.split_whitespace();
+        let word = words.next().unwrap_or("");
+        let rest: Vec<&str> = words.collect();
+        match word {
+            "session" => self.session_line(&rest),
+            "texture" => self.texture_line(&rest),
+            "view" => self.view_line(&rest),
+            "pass" => self.pass_line(&rest),
+            "depth-stencil" => self.depth_stencil_line(&rest),
+            "depth" => channel_line(&mut self.pass()?.depth, &rest, depth_bits),
+            "stencil" => channel_line(&mut self.pass()?.stencil, &rest, number),
+            "colour" => self.colour_line(&rest),
+            "again" => self.again(number(one(&rest)?)?),
+            "header" => self.header_line(&rest),
+            "length" => {
+                self.length = Some(number(one(&rest)?)? as usize);
+                Ok(())
+            }
+            "raw" => {
+                self.raw = Some(Vec::new());
+                Ok(())
+            }
+            "bytes" => self.bytes_line(&rest),
+            _ => Err(format!("no such line: {word}")),
+        }
+    }
+
+    /// The pass that the line belongs to.
+    fn pass(&mut self) -> Result<&mut Pass, String> {
+        self.session.passes.last_mut().ok_or("no pass yet".into())
+    }
+
+    /// The header's settings.
+    fn session_line(&mut self, pairs: &[&str]) -> Result<(), String> {
+        let mut header = self.session.header();
+        header = set(&header, HEADER_KEYS, pairs)?;
+        self.session.max_colours = header.max_colours;
+        self.session.max_views = header.max_views;
+        self.session.flags = header.flags;
+        Ok(())
+    }
+
+    /// A texture row.
+    fn texture_line(&mut self, pairs: &[&str]) -> Result<(), String> {
+        let row = set(&PLAIN_TEXTURE, TEXTURE_KEYS, pairs)?;
+        self.session.textures.push(row);
+        self.last = Last::Texture;
+        Ok(())
+    }
+
+    /// A view row.
+    fn view_line(&mut self, pairs: &[&str]) -> Result<(), String> {
+        let row = set(&PLAIN_VIEW, VIEW_KEYS, pairs)?;
+        self.session.views.push(row);
+        self.last = Last::View;
+        Ok(())
+    }
+
+    /// A pass; parts that no line names are empty, their other fields zero.
+    fn pass_line(&mut self, pairs: &[&str]) -> Result<(), String> {
+        let mut pass = EMPTY_PASS;
+        let fields = set_fields(vec![0, 0, 0], PASS_KEYS, pairs)?;
+        (pass.colours, pass.mask, pass.ends) = (fields[0], fields[1], fields[2]);
+        self.session.passes.push(pass);
+        self.last = Last::Pass;
+        self.slots = 0;
+        self.counted = take(pairs, "colours").0.is_none();
+        Ok(())
+    }
+
+    /// The depth-stencil view; channels that no line names have no operations.
+    fn depth_stencil_line(&mut self, pairs: &[&str]) -> Result<(), String> {
+        let pass = self.pass()?;
+        let fields = set_fields(vec![0], &[Key("view", Words::Names(VIEWS))], pairs)?;
+        pass.depth_stencil = fields[0];
+        pass.depth = NO_OPERATIONS;
+        pass.stencil = NO_OPERATIONS;
+        Ok(())
+    }
+
+    /// The next colour slot; it counts unless the pass line gives the colour count.
+    fn colour_line(&mut self, pairs: &[&str]) -> Result<(), String> {
+        let (at, counted) = (self.slots, self.counted);
+        self.slots += 1;
+        let pass = self.pass()?;
+        let slot = pass.slots.get_mut(at).ok_or("more than eight slots")?;
+        let (clear, pairs) = take(pairs, "clear");
+        let mut fields = EMPTY_SLOT.fields();
+        if pairs.iter().any(|pair| pair.starts_with("slice=")) {
+            fields[1] = 1;
+        }
+        let fields = set_fields(fields, SLOT_KEYS, &pairs)?;
+        *slot = Slot::from_fields(&fields);
+        if let Some(clear) = clear {
+            slot.clear = colour_bits(clear)?;
+        }
+        if counted {
+            pass.colours += 1;
+        }
+        Ok(())
+    }
+
+    /// Repeats the last texture, view or pass.
+    fn again(&mut self, times: u32) -> Result<(), String> {
+        for _ in 0..times {
+            match self.last {
+                Last::Nothing => return Err("nothing to repeat".into()),
+                Last::Texture => repeat_last(&mut self.session.textures),
+                Last::View => repeat_last(&mut self.session.views),
+                Last::Pass => repeat_last(&mut self.session.passes),
+            }
+        }
+        Ok(())
+    }
+
+    /// Header fields that replace the right ones.
+    fn header_line(&mut self, pairs: &[&str]) -> Result<(), String> {
+        for pair in pairs {
+            let (at, value) = key_value(HEADER_KEYS, pair)?;
+            self.header.push((at, value));
+        }
+        Ok(())
+    }
+
+    /// Bytes of a raw file.
+    fn bytes_line(&mut self, words: &[&str]) -> Result<(), String> {
+        let raw = self.raw.as_mut().ok_or("bytes without raw")?;
+        for word in words {
+            raw.extend(hexadecimal(word)?);
+        }
+        Ok(())
+    }
+
+    /// The file.
+    fn finish(self) -> Result<Vec<u8>, String> {
+        if let Some(raw) = self.raw {
+            return Ok(raw);
+        }
+        let mut bytes = self.session.to_bytes();
+        for (at, value) in self.header {
+            bytes[at * 4..at * 4 + 4].copy_from_slice(&value.to_le_bytes());
+        }
+        if let Some(length) = self.length {
+            bytes.resize(length, 0);
+        }
+        Ok(bytes)
+    }
+}
+
+/// Appends a copy of the last row.
+fn repeat_last<R: Copy>(rows: &mut Vec<R>) {
+    rows.extend(rows.last().copied());
+}
+
+/// The only word of a line.
+fn one<'a>(words: &[&'a str]) -> Result<&'a str, String> {
+    match words {
+        [word] => Ok(word),
+        _ => Err("one number is wanted".into()),
+    }
+}
+
+/// A channel's line; a clear value that is written counts as given.
+fn channel_line(
+    channel: &mut Channel,
+    pairs: &[&str],
+    clear_bits: fn(&str) -> Result<u32, String>,
+) -> Result<(), String> {
+    let (clear, pairs) = take(pairs, "clear");
+    let mut fields = NO_OPERATIONS.fields();
+    if let Some(clear) = clear {
+        fields[3] = 1;
+        fields[4] = clear_bits(clear)?;
+    }
+    *channel = Channel::from_fields(&set_fields(fields, CHANNEL_KEYS, &pairs)?);
+    Ok(())
+}
+
+/// The value of `key`, if a pair has it, and the other pairs.
+fn take<'a>(pairs: &[&'a str], key: &str) -> (Option<&'a str>, Vec<&'a str>) {
+    let value = |pair: &'a str| pair.strip_prefix(key)?.strip_prefix('=');
+    let found = pairs.iter().find_map(|pair| value(pair));
+    let others = pairs.iter().copied().filter(|p| value(p).is_none());
+    (found, others.collect())
+}
+
+/// A row with the named fields replaced.
+fn set<R: Row>(row: &R, keys: &[Key], pairs: &[&str]) -> Result<R, String> {
+    Ok(R::from_fields(&set_fields(row.fields(), keys, pairs)?))
+}
+
+/// Fields with the named ones replaced.
+fn set_fields(mut fields: Vec<u32>, keys: &[Key], pairs: &[&str]) -> Result<Vec<u32>, String> {
+    for pair in pairs {
+        let (at, value) = key_value(keys, pair)?;
+        fields[at] = value;
+    }
+    Ok(fields)
+}
+
+/// The field that a pair names and its value.
+fn key_value(keys: &[Key], pair: &str) -> Result<(usize, u32), String> {
+    let (key, value) = pair
+        .split_once('=')
+        .ok_or_else(|| format!("{pair} has no value"))?;
+    let at = keys
+        .iter()
+        .position(|Key(name, _)| *name == key)
+        .ok_or_else(|| format!("no such key: {key}"))?;
+    Ok((at, read_value(&keys[at].1, value)?))
+}
+
+/// The number that a value stands for.
+fn read_value(words: &Words, value: &str) -> Result<u32, String> {
+    match words {
+        Words::Number => number(value),
+        Words::Names(names) => named(names, value),
+        Words::Bits(names) => value
+            .split('+')
+            .try_fold(0, |bits, word| Ok(bits | named(names, word)?)),
+    }
+}
+
+/// A number, or the number of a name.
+fn named(names: &[(u32, &str)], word: &str) -> Result<u32, String> {
+    match names.iter().find(|(_, name)| *name == word) {
+        Some((value, _)) => Ok(*value),
+        None => number(word),
+    }
+}
+
+/// A decimal number.
+fn number(word: &str) -> Result<u32, String> {
+    word.parse().map_err(|_| format!("not a number: {word}"))
+}
+
+/// The bits of a depth clear value: `0x` and the bits, or a decimal fraction.
+fn depth_bits(word: &str) -> Result<u32, String> {
+    match word.strip_prefix("0x") {
+        Some(bits) => u32::from_str_radix(bits, 16).map_err(|e| e.to_string()),
+        None => word
+            .parse()
+            .map(f32::to_bits)
+            .map_err(|_| format!("not a value: {word}")),
+    }
+}
+
+/// The bits of a colour: four values parted by commas.
+fn colour_bits(word: &str) -> Result<[u64; 4], String> {
+    let values: Result<Vec<u64>, String> = word.split(',').map(wide_bits).collect();
+    values?
+        .try_into()
+        .map_err(|_| "a colour has four values".into())
+}
+
+/// The bits of one value of a colour.
+fn wide_bits(word: &str) -> Result<u64, String> {
+    match word.strip_prefix("0x") {
+        Some(bits) => u64::from_str_radix(bits, 16).map_err(|e| e.to_string()),
+        None => word
+            .parse()
+            .map(f64::to_bits)
+            .map_err(|_| format!("not a value: {word}")),
+    }
+}
+
+/// The bytes of an even number of hexadecimal digits.
+fn hexadecimal(word: &str) -> Result<Vec<u8>, String> {
+    if !word.is_ascii() || !word.len().is_multiple_of(2) {
+        return Err(format!("not bytes: {word}"));
+    }
+    (0..word.len() / 2)
+        .map(|i| u8::from_str_radix(&word[2 * i..2 * i + 2], 16).map_err(|e| e.to_string()))
+        .collect()
+}
+
+/// A text that stands for exactly these bytes: rows where they can be told, else `raw`.
+pub fn from_bytes(bytes: &[u8]) -> String {
+    match Session::decode(bytes).map(|session| rows_text(&session)) {
+        Some(text) if to_bytes(&text).as_deref() == Ok(bytes) => text,
+        _ => raw_text(bytes),
+    }
+}
+
+/// Bytes as hexadecimal digits.
+fn raw_text(bytes: &[u8]) -> String {
+    let mut text = String::from("raw\n");
+    for line in bytes.chunks(32) {
+        let digits: String = line.iter().map(|byte| format!("{byte:02x}")).collect();
+        text += &format!("bytes {digits}\n");
+    }
+    text
+}
+
+/// A session's rows; equal rows that follow one another are written once.
+fn rows_text(session: &Session) -> String {
+    let fresh = Session::new().header();
+    let header = Header {
+        max_colours: session.max_colours,
+        max_views: session.max_views,
+        flags: session.flags,
+        ..fresh
+    };
+    let mut text = format!("session{}\n", pairs(&header, &fresh, HEADER_KEYS));
+    text += &repeated(&session.textures, |row| {
+        format!("texture{}\n", pairs(row, &PLAIN_TEXTURE, TEXTURE_KEYS))
+    });
+    text += &repeated(&session.views, |row| {
+        format!("view{}\n", pairs(row, &PLAIN_VIEW, VIEW_KEYS))
+    });
+    text += &repeated(&session.passes, pass_text);
+    text
+}
+
+/// Each row's text, with `again` for the rows that are equal to the one before.
+fn repeated<R: PartialEq>(rows: &[R], text: impl Fn(&R) -> String) -> String {
+    rows.chunk_by(|a, b| a == b)
+        .map(|run| match run.len() {
+            1 => text(&run[0]),
+            more => format!("{}again {}\n", text(&run[0]), more - 1),
+        })
+        .collect()
+}
+
+/// The pairs of the fields that differ from the default row.
+fn pairs<R: Row>(row: &R, default: &R, keys: &[Key]) -> String {
+    field_pairs(&row.fields(), &default.fields(), keys)
+}
+
+/// The pairs of the fields that differ from their defaults.
+fn field_pairs(fields: &[u32], defaults: &[u32], keys: &[Key]) -> String {
+    keys.iter()
+        .enumerate()
+        .filter(|(i, _)| fields[*i] != defaults[*i])
+        .map(|(i, Key(name, words))| format!(" {name}={}", write_value(words, fields[i])))
+        .collect()
+}
+
+/// A value by its name, where it has one.
+fn write_value(words: &Words, value: u32) -> String {
+    let name = match words {
+        Words::Number => None,
+        Words::Names(names) => names
+            .iter()
+            .find(|(v, _)| *v == value)
+            .map(|(_, name)| name.to_string()),
+        Words::Bits(names) => bit_names(names, value),
+    };
+    name.unwrap_or(value.to_string())
+}
+
+/// The names of the bits, where each has one.
+fn bit_names(names: &[(u32, &str)], value: u32) -> Option<String> {
+    let known: u32 = names.iter().map(|(bit, _)| bit).sum();
+    let set = names.iter().filter(|(bit, _)| value & bit != 0);
+    (value != 0 && value & !known == 0)
+        .then(|| set.map(|(_, name)| *name).collect::<Vec<_>>().join("+"))
+}
+
+/// A pass and its parts.
+fn pass_text(pass: &Pass) -> String {
+    let colours = (pass.colours as usize).min(SLOTS);
+    let uncounted = if pass.colours as usize > SLOTS {
+        pass.colours
+    } else {
+        0
+    };
+    let own = [uncounted, pass.mask, pass.ends];
+    let mut text = format!("pass{}\n", field_pairs(&own, &[0, 0, 0], PASS_KEYS));
+    if pass.depth_stencil != NONE {
+        text += &format!("  depth-stencil view={}\n", pass.depth_stencil);
+        text += &channel_text("depth", &pass.depth, |bits| {
+            write_float(f32::from_bits(bits), f32::is_nan, format!("0x{bits:08x}"))
+        });
+        text += &channel_text("stencil", &pass.stencil, |value| value.to_string());
+    }
+    for slot in &pass.slots[..colours] {
+        text += &slot_text(slot);
+    }
+    text
+}
+
+/// A channel that has an operation or another field that is not the default.
+fn channel_text(name: &str, channel: &Channel, clear: impl Fn(u32) -> String) -> String {
+    if *channel == NO_OPERATIONS {
+        return String::new();
+    }
+    let written = channel.clear_given == 1 || channel.clear != 0;
+    let mut defaults = NO_OPERATIONS.fields();
+    let mut text = format!("  {name}");
+    if written {
+        defaults[3] = 1;
+    }
+    text += &field_pairs(&channel.fields(), &defaults, CHANNEL_KEYS);
+    if written {
+        text += &format!(" clear={}", clear(channel.clear));
+    }
+    text + "\n"
+}
+
+/// A colour slot.
+fn slot_text(slot: &Slot) -> String {
+    let mut defaults = EMPTY_SLOT.fields();
+    if slot.slice_given == 1 || slot.slice != 0 {
+        // The slice is written, which counts as given.
+        defaults[1] = 1;
+        defaults[2] = !slot.slice;
+    }
+    let mut text = format!(
+        "  colour{}",
+        field_pairs(&slot.fields(), &defaults, SLOT_KEYS)
+    );
+    if slot.clear != [0; 4] {
+        let values = slot
+            .clear
+            .map(|bits| write_float(f64::from_bits(bits), f64::is_nan, format!("0x{bits:016x}")));
+        text += &format!(" clear={}", values.join(","));
+    }
+    text + "\n"
+}
+
+/// A value as a fraction that reads back to the same bits, or its bits.
+fn write_float<F: Copy + std::fmt::Debug>(
+    value: F,
+    is_nan: impl Fn(F) -> bool,
+    bits: String,
+) -> String {
+    if is_nan(value) {
+        bits
+    } else {
+        format!("{value:?}")
+    }
+}

@@ -1,0 +1,221 @@
+//! The reader's numbers at the edges of every range.
+
+use sessions::layout::*;
+use sessions::reader::{pass_fits, read};
+use sessions::rows::*;
+use sessions::text;
+
+/// A session with one texture, one view and one pass.
+fn small() -> Session {
+    let bytes = text::to_bytes("texture usage=63\nview\npass\n  colour view=0").unwrap();
+    read(&bytes).unwrap()
+}
+
+/// The number that refuses a session, or 0.
+fn number(session: &Session) -> u32 {
+    read(&session.to_bytes()).err().unwrap_or(0)
+}
+
+#[test]
+fn lengths() {
+    let bytes = small().to_bytes();
+    for length in 0..bytes.len() {
+        assert_eq!(read(&bytes[..length]), Err(1), "{length} bytes");
+    }
+    let told = |length: u32, field: u32| {
+        let mut long = vec![0; length as usize];
+        long[36..40].copy_from_slice(&field.to_le_bytes());
+        read(&long).err()
+    };
+    assert_eq!(told(70000, 70000), Some(2));
+    assert_eq!(told(70000, 60680), Some(1));
+    assert_eq!(told(40, 40), Some(2), "offsets and colours are zero");
+}
+
+#[test]
+fn header_fields() {
+    let with = |change: fn(&mut Session)| {
+        let mut session = small();
+        change(&mut session);
+        number(&session)
+    };
+    assert_eq!(with(|s| s.max_colours = 0), 2);
+    assert_eq!(with(|s| s.max_colours = 1), 0);
+    assert_eq!(with(|s| s.max_colours = 9), 2);
+    assert_eq!(with(|s| s.max_views = 32), 0);
+    assert_eq!(with(|s| s.max_views = 33), 2);
+    assert_eq!(with(|s| s.flags = 15), 0);
+    assert_eq!(with(|s| s.flags = 16), 2);
+    assert_eq!(with(|s| s.textures = vec![PLAIN_TEXTURE; 64]), 0);
+    assert_eq!(with(|s| s.textures = vec![PLAIN_TEXTURE; 65]), 2);
+    assert_eq!(with(|s| s.views = vec![PLAIN_VIEW; 256]), 0);
+    assert_eq!(with(|s| s.views = vec![PLAIN_VIEW; 257]), 2);
+    assert_eq!(with(|s| s.passes = vec![EMPTY_PASS; 100]), 0);
+    assert_eq!(with(|s| s.passes = vec![EMPTY_PASS; 101]), 2);
+}
+
+#[test]
+fn texture_fields() {
+    let field = |field: usize, value: u32| {
+        let mut fields = PLAIN_TEXTURE.fields();
+        fields[field] = value;
+        let mut session = Session::new();
+        session.textures.push(Texture::from_fields(&fields));
+        number(&session)
+    };
+    let edges: [(usize, &[u32], &[u32]); 8] = [
+        (0, &[1, 14, 20, 25], &[0, 15, 19, 26]),
+        (1, &[1, 2, 3], &[0, 4]),
+        (2, &[1, 16384], &[0, 16385]),
+        (3, &[1, 16384], &[0, 16385]),
+        (4, &[1, 32], &[0, 33]),
+        (5, &[1, 15], &[0, 16]),
+        (6, &[1, 2, 4, 8, 16], &[0, 3, 5, 32]),
+        (7, &[0, 63], &[64]),
+    ];
+    for (at, lawful, unlawful) in edges {
+        for value in lawful {
+            assert_eq!(field(at, *value), 0, "field {at}, {value}");
+        }
+        for value in unlawful {
+            assert_eq!(field(at, *value), 3, "field {at}, {value}");
+        }
+    }
+}
+
+#[test]
+fn depth_formats_need_dimension_2() {
+    let with = |format: u32, dimension: u32| {
+        let mut session = Session::new();
+        session.textures.push(Texture {
+            format,
+            dimension,
+            ..PLAIN_TEXTURE
+        });
+        number(&session)
+    };
+    assert_eq!((with(14, 1), with(14, 3)), (0, 0));
+    assert_eq!((with(20, 1), with(25, 3), with(20, 2)), (3, 3, 0));
+}
+
+#[test]
+fn surfaces_are_counted_before_views() {
+    let with = |dimension: u32, layers: u32, mips: u32, more: u32| {
+        let mut session = small();
+        let texture = Texture {
+            dimension,
+            depth_or_layers: layers,
+            mips,
+            ..PLAIN_TEXTURE
+        };
+        session.textures = vec![texture; 16];
+        session.textures.extend(vec![PLAIN_TEXTURE; more as usize]);
+        session.views[0].layer_count = 99;
+        number(&session)
+    };
+    assert_eq!(with(2, 32, 8, 0), 4, "4096 surfaces");
+    assert_eq!(with(2, 32, 8, 1), 3, "4097 surfaces");
+    assert_eq!(with(3, 32, 8, 1), 4, "a 3D texture has one layer");
+}
+
+#[test]
+fn view_fields() {
+    let field = |field: usize, value: u32| {
+        let texture = Texture {
+            depth_or_layers: 4,
+            mips: 3,
+            usage: 16,
+            ..PLAIN_TEXTURE
+        };
+        let mut fields = PLAIN_VIEW.fields();
+        fields[field] = value;
+        let mut session = Session::new();
+        session.textures.push(texture);
+        session.views.push(View::from_fields(&fields));
+        number(&session)
+    };
+    let edges: [(usize, &[u32], &[u32]); 8] = [
+        (0, &[0], &[1, NONE]),
+        (1, &[2, 3, 4, 5], &[0, 1, 6, 7]),
+        (2, &[0, 2], &[3, NONE]),
+        (3, &[1, 3], &[0, 4, NONE]),
+        (4, &[0, 3], &[4, NONE]),
+        (5, &[1, 4], &[0, 5, NONE]),
+        (6, &[0, 16], &[1, 48, 64]),
+        (7, &[0, 1], &[2]),
+    ];
+    for (at, lawful, unlawful) in edges {
+        for value in lawful {
+            assert_eq!(field(at, *value), 0, "field {at}, {value}");
+        }
+        for value in unlawful {
+            assert_eq!(field(at, *value), 4, "field {at}, {value}");
+        }
+    }
+}
+
+#[test]
+fn dimensions_go_in_pairs() {
+    for texture_dimension in 1..=3 {
+        for view_dimension in 0..=7 {
+            let mut session = Session::new();
+            session.textures.push(Texture {
+                dimension: texture_dimension,
+                ..PLAIN_TEXTURE
+            });
+            session.views.push(View {
+                dimension: view_dimension,
+                ..PLAIN_VIEW
+            });
+            let pair = match view_dimension {
+                D1 => 1,
+                2..=5 => 2,
+                D3 => 3,
+                _ => 0,
+            };
+            let expected = if pair == texture_dimension { 0 } else { 4 };
+            assert_eq!(number(&session), expected);
+        }
+    }
+}
+
+#[test]
+fn pass_fields() {
+    let mut session = small();
+    session.views = vec![PLAIN_VIEW; 2];
+    let slot = Slot {
+        view: 1,
+        ..EMPTY_SLOT
+    };
+    let mut pass = EMPTY_PASS;
+    pass.colours = 2;
+    pass.slots[0] = EMPTY_SLOT;
+    pass.slots[1] = slot;
+    pass.depth_stencil = 1;
+    let fits = |change: &dyn Fn(&mut Pass)| {
+        let mut changed = pass;
+        change(&mut changed);
+        pass_fits(&session, &changed)
+    };
+    assert!(fits(&|_| ()));
+    assert!(fits(&|p| p.mask = NONE));
+    assert!(fits(&|p| p.slots[0].load = 9), "an empty slot's rest");
+    assert!(fits(&|p| p.slots[2].load = 9), "a slot past the count");
+    assert!(fits(&|p| p.depth.clear = NONE));
+    assert!(fits(&|p| p.slots[1].slice = NONE));
+    assert!(fits(&|p| (p.depth.load, p.stencil.store) = (3, 2)));
+    let without = |p: &mut Pass| (p.depth_stencil, p.depth.load) = (NONE, 9);
+    assert!(fits(&without), "the rest of an absent depth-stencil part");
+    assert!(!fits(&|p| p.colours = 9));
+    assert!(!fits(&|p| p.ends = 2));
+    assert!(!fits(&|p| p.depth_stencil = 2));
+    assert!(!fits(&|p| p.depth.load = 4));
+    assert!(!fits(&|p| p.stencil.store = 3));
+    assert!(!fits(&|p| p.depth.read_only = 2));
+    assert!(!fits(&|p| p.stencil.clear_given = 2));
+    assert!(!fits(&|p| p.slots[1].view = 2));
+    assert!(!fits(&|p| p.slots[1].slice_given = 2));
+    assert!(!fits(&|p| p.slots[1].resolve = 2));
+    assert!(!fits(&|p| p.slots[1].load = 3));
+    assert!(!fits(&|p| p.slots[1].store = 2));
+}
