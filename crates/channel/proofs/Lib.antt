@@ -1,0 +1,4 @@
+pub mod Asked
+pub mod Resolve
+pub mod Bits
+pub mod Corners

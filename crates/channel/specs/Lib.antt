@@ -1,0 +1,4 @@
+pub mod Store
+pub mod Asked
+pub mod Color
+pub mod Corners

@@ -1,0 +1,1 @@
+-- What the functions mean is in the definition, module Formats.

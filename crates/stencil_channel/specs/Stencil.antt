@@ -1,0 +1,42 @@
+-- What the stencil channel's enums stand for in the definition.
+use mathlib.Core.Option.{Option, none, some}
+use Prim.Native.Nat.{ℕ}
+use Rattle.definition.specs.Channel.{LoadOp, loadOp, clearOp, dontCare, Ops, operational, readOnlyOps, PassChannel, Resolved, channel, refused}
+use Rattle.channel.specs.Store.{keepIn, storeIn}
+use Rattle.channel.specs.Asked.{askedField}
+use Rattle.stencil_channel.specs.declared.StencilLoadOp.{StencilLoadOp}
+use Rattle.stencil_channel.specs.declared.StencilLoadOp.the-variants as SL
+use Rattle.stencil_channel.specs.declared.StencilLoadField.{StencilLoadField}
+use Rattle.stencil_channel.specs.declared.StencilLoadField.the-variants as SF
+use Rattle.stencil_channel.specs.declared.StencilClear.{StencilClear}
+use Rattle.stencil_channel.specs.declared.StencilClear.the-variants as SC
+use Rattle.stencil_channel.specs.declared.StencilChannel.{StencilChannel}
+use Rattle.stencil_channel.specs.declared.ResolvedStencil.{ResolvedStencil}
+use Rattle.stencil_channel.specs.declared.ResolvedStencil.the-variants as SR
+use Rattle.stencil_channel.specs.declared.StencilAnswer.{StencilAnswer}
+use Rattle.stencil_channel.specs.declared.StencilAnswer.the-variants as SA
+
+abbrev pub loadIn : StencilLoadOp → LoadOp ℕ
+loadIn SL.Load = loadOp
+loadIn (SL.Clear x) = clearOp x
+loadIn SL.DontCare = dontCare
+
+abbrev pub fieldIn : StencilLoadField → Option (LoadOp ℕ)
+fieldIn SF.Absent = none
+fieldIn (SF.Is l) = some (loadIn l)
+
+abbrev pub clearIn : StencilClear → Option ℕ
+clearIn SC.Absent = none
+clearIn (SC.Is x) = some x
+
+abbrev pub channelIn : StencilChannel → PassChannel (Option ℕ)
+channelIn c = record { load = askedField (c .given) (fieldIn (c .load)); store = storeIn (c .store); readOnly = c .readonly }
+
+abbrev pub opsIn : ResolvedStencil → Ops ℕ
+opsIn SR.ReadOnly = readOnlyOps
+opsIn (SR.Operational o) = operational (loadIn (o .load)) (keepIn (o .store))
+
+-- The resolved channel, or the number that refuses it.
+abbrev pub answerIn : StencilAnswer → Resolved ℕ
+answerIn (SA.Channel c) = channel (opsIn c)
+answerIn (SA.Refused n) = refused n

@@ -1,0 +1,172 @@
+// Little-endian numbers and floats, read from bytes and written into them. Every position has an answer: past the end a
+// byte reads as 0, and a number that does not fit whole is not written. No public function has a `requires`.
+ghost use mathlib.Core.Path.{_≡_};
+ghost use Prim.Native.Nat.{_+_, _≤_, _<_};
+ghost use lib.ListN.{length, getD};
+ghost use lib.Ieee.{binary32, binary64, toBits};
+ghost use Rattle.definition.specs.Bytes.{u32At, f32OfBits, f64OfBits, f64At, bit};
+ghost use Rattle.wire.specs.Writing.{putBytes, putNumber};
+
+// A byte as a u32.
+fn wide(b: u8) -> u32
+    ensures { λ r. ⌜ (r ≡ b) × (r < 256) ⌝ }
+{
+    b as u32
+}
+
+// The byte k after a place.
+fn byte(s: &[u8], at: usize, k: usize) -> u32
+    ensures { λ r. ⌜ (r ≡ getD (now (s .entry)) (at + k) 0) × (r < 256) ⌝ }
+{
+    let n = s.len();
+    if at >= n {
+        return 0;
+    }
+    if k >= n - at {
+        return 0;
+    }
+    wide(s[at + k])
+}
+
+// Four bytes, each tested by itself.
+fn u32_across_end(s: &[u8], at: usize) -> u32
+    ensures { λ r. ⌜ r ≡ u32At (now (s .entry)) at ⌝ }
+{
+    byte(s, at, 0) + 256 * byte(s, at, 1) + 65536 * byte(s, at, 2) + 16777216 * byte(s, at, 3)
+}
+
+// Four bytes, the lowest first. One test of the length serves all four where they lie inside.
+pub fn u32_at(s: &[u8], at: usize) -> u32
+    ensures { λ r. ⌜ r ≡ u32At (now (s .entry)) at ⌝ }
+{
+    let n = s.len();
+    if n >= 4 {
+        if at <= n - 4 {
+            return wide(s[at])
+                + 256 * wide(s[at + 1])
+                + 65536 * wide(s[at + 2])
+                + 16777216 * wide(s[at + 3]);
+        }
+    }
+    u32_across_end(s, at)
+}
+
+// Whether bit k of n is set.
+pub fn has_bit(n: u32, k: u32) -> bool
+    ensures { λ r. ⌜ r ≡ bit n k ⌝ }
+{
+    if k >= 32 {
+        return false;
+    }
+    (n >> k) % 2 == 1
+}
+
+// The f32 of a pattern. Every NaN's pattern gives the one NaN.
+pub fn f32_of_bits(n: u32) -> f32
+    ensures { λ r. ⌜ r ≡ f32OfBits n ⌝ }
+{
+    let magnitude = n % 0x8000_0000;
+    if magnitude > 0x7f80_0000 {
+        return 0.0 / 0.0;
+    }
+    f32::from_bits(n)
+}
+
+// The same of an f64.
+pub fn f64_of_bits(n: u64) -> f64
+    ensures { λ r. ⌜ r ≡ f64OfBits n ⌝ }
+{
+    let magnitude = n % 0x8000_0000_0000_0000;
+    if magnitude > 0x7ff0_0000_0000_0000 {
+        return 0.0 / 0.0;
+    }
+    f64::from_bits(n)
+}
+
+// The pattern of an f32. The NaN has the canonical one.
+pub fn bits_of_f32(x: f32) -> u32
+    ensures { λ r. ⌜ r ≡ toBits binary32 x ⌝ }
+{
+    if x != x {
+        return 0x7fc0_0000;
+    }
+    f32::to_bits(x)
+}
+
+// The same of an f64.
+pub fn bits_of_f64(x: f64) -> u64
+    ensures { λ r. ⌜ r ≡ toBits binary64 x ⌝ }
+{
+    if x != x {
+        return 0x7ff8_0000_0000_0000;
+    }
+    f64::to_bits(x)
+}
+
+// Eight bytes as an f64, the lowest first.
+pub fn f64_at(s: &[u8], at: usize) -> f64
+    ensures { λ r. ⌜ r ≡ f64At (now (s .entry)) at ⌝ }
+{
+    let low = u32_at(s, at) as u64;
+    let high = u32_four_on(s, at) as u64;
+    f64_of_bits(low + 0x1_0000_0000 * high)
+}
+
+// The u32 four bytes after a place.
+fn u32_four_on(s: &[u8], at: usize) -> u32
+    ensures { λ r. ⌜ r ≡ u32At (now (s .entry)) (at + 4) ⌝ }
+{
+    if at >= s.len() {
+        return 0;
+    }
+    u32_at(s, at + 4)
+}
+
+// Writes the lowest k bytes of n, the lowest first.
+fn put_bytes(s: &mut [u8], at: usize, n: u64, k: usize)
+    requires { ⌜ at + k ≤ length (now s) ⌝ }
+    ensures { λ _. ⌜ now (s .exit) ≡ putBytes (now (s .entry)) at n k ⌝ }
+{
+    let mut rest = n;
+    let mut i = 0usize;
+    while i < k {
+        s[at + i] = (rest % 256) as u8;
+        rest = rest / 256;
+        i += 1;
+    }
+}
+
+// Writes a number of k bytes, where they all lie inside.
+fn put_number(s: &mut [u8], at: usize, n: u64, k: usize)
+    ensures { λ _. ⌜ now (s .exit) ≡ putNumber k (now (s .entry)) at n ⌝ }
+{
+    let size = s.len();
+    if size < k {
+        return;
+    }
+    if at > size - k {
+        return;
+    }
+    put_bytes(s, at, n, k);
+}
+
+// Writes a u32.
+pub fn put_u32(s: &mut [u8], at: usize, n: u32)
+    ensures { λ _. ⌜ now (s .exit) ≡ putNumber 4 (now (s .entry)) at n ⌝ }
+{
+    put_number(s, at, n as u64, 4);
+}
+
+// Writes an f32 as its pattern.
+pub fn put_f32(s: &mut [u8], at: usize, x: f32)
+    ensures { λ _. ⌜ now (s .exit) ≡ putNumber 4 (now (s .entry)) at (toBits binary32 x) ⌝ }
+{
+    put_number(s, at, bits_of_f32(x) as u64, 4);
+}
+
+// Writes an f64 as its pattern.
+pub fn put_f64(s: &mut [u8], at: usize, x: f64)
+    ensures { λ _. ⌜ now (s .exit) ≡ putNumber 8 (now (s .entry)) at (toBits binary64 x) ⌝ }
+{
+    put_number(s, at, bits_of_f64(x), 8);
+}
