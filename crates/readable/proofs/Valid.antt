@@ -1,0 +1,186 @@
+-- A refusal of 0 means that all four tests hold; each fact is one test of their conjunctions, and row k of a table is one of
+-- the first n.
+use mathlib.Core.Path.{_≡_, refl, sym, _∙_}
+use mathlib.Core.Bool.{Bool, true, false, _&&_, _||_, cond}
+use mathlib.Core.List.{List, [], _∷_}
+use Prim.Native.Nat.{ℕ, _+_, _≤_, _<_}
+use native.Mathlib.Nat.{le-trans, lt-of-lt-of-le}
+use native.Mathlib.Omega.{arith}
+use lib.Dec.{leb, ltb, eqb}
+use lib.ListN.{length, getD}
+use borrow.Author.Tests.{leb-true, ltb-true, eqb-true}
+use Rattle.definition.specs.Formats.{isFormat}
+use Rattle.definition.specs.Session.{Pass, Session, session, textureCount, textureOffset, viewCount, viewOffset, passCount, passOffset, maxColors, maxMultiview, flags, totalLength, viewStart, passStart, passEnd, isNone, arrayLayers, surfaceCount}
+use Rattle.definition.specs.Readable.{between, lengthRight, headerRight, samplesRight, textureRight, texturesRead, texturesRight, usageAmong, dimensionFits, viewInTexture, viewRight, viewsRight, sessionRefusal, channelReads, depthStencilReads, resolveReads, slotReads, slotsRead, passReads}
+use Rattle.definition.specs.declared.Texture.{Texture}
+use Rattle.definition.specs.declared.View.{View}
+use Rattle.definition.specs.declared.Slot.{Slot}
+use Rattle.laws.proofs.Tests.{clash, and-left, and-right, or-second}
+use Rattle.laws.proofs.Folds.{textures-each, views-each, slots-read-each, before-grows}
+use Rattle.laws.proofs.Places.{place-counted}
+use Rattle.laws.proofs.Views.{view-range, view-dimension}
+use Rattle.readable.specs.Valid.{ValidTexture, ValidView, Valid, ValidSlot, ValidDepthStencil, ValidPass}
+use Rattle.laws.proofs.Conjunctions.{each}
+use Rattle.readable.proofs.Refusal.{refusalOf, refused-by}
+
+-- ── the four tests
+
+record Passed (a b c d : Bool) : Type 0 where
+  pub first : a ≡ true
+  pub second : b ≡ true
+  pub third : c ≡ true
+  pub fourth : d ≡ true
+
+passed : (a b c d : Bool) → refusalOf a b c d ≡ 0 → Passed a b c d
+unfolding refusalOf
+passed true true true true e = record { first = refl; second = refl; third = refl; fourth = refl }
+passed true true true false e = absurd (omega (arith, e))
+passed true true false d e = absurd (omega (arith, e))
+passed true false c d e = absurd (omega (arith, e))
+passed false b c d e = absurd (omega (arith, e))
+
+tests : (s : List ℕ) → sessionRefusal s ≡ 0 → Passed (lengthRight s) (headerRight s) (texturesRight (session s)) (viewsRight (session s))
+tests s e = passed _ _ _ _ (refused-by s refl refl refl refl ∙ e)
+
+-- ── a texture row
+
+within : (low high n : ℕ) → between low high n ≡ true → (low ≤ n) × (n ≤ high)
+unfolding between
+within low high n e = (leb-true low n (and-left (leb low n) (leb n high) e), leb-true n high (and-right (leb low n) (leb n high) e))
+
+-- One layer, or 1 to 32.
+layered : (t : Texture) → (1 ≤ t .depth) × (t .depth ≤ 32) → (1 ≤ arrayLayers t) × (arrayLayers t ≤ 32)
+unfolding arrayLayers
+layered t h = go (eqb (t .dimension) 3)
+  where
+    go : (b : Bool) → (1 ≤ cond b 1 (t .depth)) × (cond b 1 (t .depth) ≤ 32)
+    go true = (omega arith, omega arith)
+    go false = h
+
+abbrev textureTests : Texture → List Bool
+textureTests t =
+    isFormat (t .format) ∷ between 1 3 (t .dimension) ∷ (ltb (t .format) 20 || eqb (t .dimension) 2)
+    ∷ between 1 16384 (t .width) ∷ between 1 16384 (t .height) ∷ between 1 32 (t .depth)
+    ∷ between 1 15 (t .mips) ∷ samplesRight (t .samples) ∷ leb (t .usage) 63 ∷ []
+
+pub valid-texture : (t : Texture) → textureRight t ≡ true → ValidTexture t
+unfolding textureRight
+valid-texture t e =
+    let test = each (textureTests t) e in
+    let depth = within 1 32 (t .depth) (test 5) in
+    record {
+      format = test 0;
+      dimension = within 1 3 (t .dimension) (test 1);
+      width = within 1 16384 (t .width) (test 3);
+      height = within 1 16384 (t .height) (test 4);
+      depth = depth;
+      mips = within 1 15 (t .mips) (test 6);
+      layers = layered t depth;
+      samples = test 7;
+      usage = leb-true (t .usage) 63 (test 8);
+    }
+
+-- ── a view row
+
+abbrev viewTests : Texture → View → List Bool
+viewTests t v =
+    dimensionFits (v .dimension) (t .dimension) ∷ leb 1 (v .mips) ∷ leb (v .mip + v .mips) (t .mips)
+    ∷ leb 1 (v .layers) ∷ leb (v .layer + v .layers) (arrayLayers t) ∷ usageAmong (v .usage) (t .usage) ∷ leb (v .resolvable) 1 ∷ []
+
+pub valid-view : (S : Session) (v : View) → viewRight S v ≡ true → ValidView S v
+unfolding viewRight viewInTexture
+valid-view S v e =
+    let t = S .texture (v .texture) in
+    let test = each (viewTests t v) (and-right (ltb (v .texture) (S .textureCount)) (viewInTexture t v) e) in
+    record { range = view-range S v e; dimension = view-dimension S v e; usage = test 5; resolvable = leb-true (v .resolvable) 1 (test 6) }
+
+-- ── the session
+
+abbrev headerTests : List ℕ → List Bool
+headerTests s =
+    leb (textureCount s) 64 ∷ eqb (textureOffset s) 40 ∷ leb (viewCount s) 256 ∷ eqb (viewOffset s) (viewStart s)
+    ∷ leb (passCount s) 100 ∷ eqb (passOffset s) (passStart s) ∷ between 1 8 (maxColors s)
+    ∷ leb (maxMultiview s) 32 ∷ leb (flags s) 15 ∷ eqb (passEnd s) (totalLength s) ∷ []
+
+header-test : (s : List ℕ) → headerRight s ≡ true → (j : ℕ) → getD (headerTests s) j true ≡ true
+unfolding headerRight
+header-test s e = each (headerTests s) e
+
+whole : (s : List ℕ) → lengthRight s ≡ true → totalLength s ≡ length s
+unfolding lengthRight
+whole s e = eqb-true (totalLength s) (length s) (and-right (leb 40 (length s)) (eqb (totalLength s) (length s)) e)
+
+texture-rows : (S : Session) → texturesRight S ≡ true → texturesRead S (S .textureCount) ≡ true
+unfolding texturesRight
+texture-rows S e = and-left (texturesRead S (S .textureCount)) (leb (surfaceCount S) 4096) e
+
+few-surfaces : (S : Session) → texturesRight S ≡ true → surfaceCount S ≤ 4096
+unfolding texturesRight
+few-surfaces S e = leb-true (surfaceCount S) 4096 (and-right (texturesRead S (S .textureCount)) (leb (surfaceCount S) 4096) e)
+
+-- A session that is not refused is valid.
+pub valid-of : (s : List ℕ) → sessionRefusal s ≡ 0 → Valid s
+unfolding session
+valid-of s e =
+    let S = session s in
+    let t = tests s e in
+    let test = header-test s (t .second) in
+    let few = few-surfaces S (t .third) in
+    record {
+      bytes = sym (whole s (t .first)) ∙ sym (eqb-true (passEnd s) (totalLength s) (test 9));
+      textures = leb-true (textureCount s) 64 (test 0);
+      views = leb-true (viewCount s) 256 (test 2);
+      passes = leb-true (passCount s) 100 (test 4);
+      colors = within 1 8 (maxColors s) (test 6);
+      multiview = leb-true (maxMultiview s) 32 (test 7);
+      flags = leb-true (flags s) 15 (test 8);
+      texture = λ k h. valid-texture (S .texture k) (textures-each S (S .textureCount) (texture-rows S (t .third)) k h);
+      view = λ k h. valid-view S (S .view k) (views-each S (S .viewCount) (t .fourth) k h);
+      surfaces = λ n h. le-trans (before-grows S n (S .textureCount) h) few;
+      surface = λ x i. lt-of-lt-of-le (place-counted S x i) few;
+    }
+
+-- ── a pass row
+
+channels : (S : Session) (p : Pass) → depthStencilReads S p ≡ true → isNone (p .depthStencil) ≡ false → ValidDepthStencil S p
+unfolding depthStencilReads
+channels S p e none =
+    let a = ltb (p .depthStencil) (S .viewCount) in
+    let test = each (a ∷ channelReads (p .depth) ∷ channelReads (p .stencil) ∷ []) (or-second (isNone (p .depthStencil)) _ e none) in
+    record { view = ltb-true (p .depthStencil) (S .viewCount) (test 0); depth = test 1; stencil = test 2 }
+
+resolved : (S : Session) (v : ℕ) → resolveReads S v ≡ true → isNone v ≡ false → v < S .viewCount
+unfolding resolveReads
+resolved S v e none = ltb-true v (S .viewCount) (or-second (isNone v) (ltb v (S .viewCount)) e none)
+
+valid-slot : (S : Session) (c : Slot) → slotReads S c ≡ true → isNone (c .view) ≡ false → ValidSlot S c
+unfolding slotReads
+valid-slot S c e none =
+    let a = ltb (c .view) (S .viewCount) in
+    let test = each (a ∷ leb (c .sliced) 1 ∷ resolveReads S (c .resolve) ∷ leb (c .load) 2 ∷ leb (c .store) 1 ∷ []) (or-second (isNone (c .view)) _ e none) in
+    record {
+      view = ltb-true (c .view) (S .viewCount) (test 0);
+      sliced = leb-true (c .sliced) 1 (test 1);
+      resolve = resolved S (c .resolve) (test 2);
+      load = leb-true (c .load) 2 (test 3);
+      store = leb-true (c .store) 1 (test 4);
+    }
+
+-- A pass row that can be read is valid.
+pub valid-pass : (S : Session) (p : Pass) → passReads S p ≡ true → ValidPass S p
+unfolding passReads
+valid-pass S p e = go (leb (p .colors) 8) refl e
+  where
+    rest : Bool
+    rest = leb (p .ends) 1 && depthStencilReads S p && slotsRead S p (p .colors)
+
+    go : (b : Bool) → leb (p .colors) 8 ≡ b → cond b rest false ≡ true → ValidPass S p
+    go false q z = clash {b = false} z refl
+    go true q z =
+        let test = each (leb (p .ends) 1 ∷ depthStencilReads S p ∷ slotsRead S p (p .colors) ∷ []) z in
+        record {
+          colors = leb-true (p .colors) 8 q;
+          ends = leb-true (p .ends) 1 (test 0);
+          depthStencil = channels S p (test 1);
+          slot = λ k h. valid-slot S (p .slot k) (slots-read-each S p (p .colors) (test 2) k h);
+        }

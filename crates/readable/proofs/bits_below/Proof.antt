@@ -1,0 +1,42 @@
+-- The invariant: the first k bits are judged.
+use mathlib.Core.Path.{_≡_, refl, sym}
+use native.Mathlib.Omega.{arith}
+use Prim.Native.Nat.{_≤_, _-_}
+use native.Mathlib.Numerals.{add-one}
+use borrow.Author.Needs.{needs}
+use Rattle.definition.specs.Readable.{bitsBelow}
+use Rattle.readable.proofs.bits_below.Statement.{statement}
+use Rattle.readable.proofs.bits_below.Tie as tie
+
+abbrev Inv-loop : tie.InvT-loop
+Inv-loop a b n all₀ k₀ all k = (all ≡ bitsBelow a b k) × (k ≤ n)
+
+abbrev μ-loop : tie.MeasureT-loop
+μ-loop a b n all₀ k₀ all k = n - k
+
+loop-holds : tie.Need-loop-holds Inv-loop μ-loop
+unfolding bitsBelow
+loop-holds c = (refl, omega arith)
+
+loop-again : tie.Need-loop-again Inv-loop μ-loop
+unfolding bitsBelow
+loop-again c = (rw add-one (simp (c .has-bit2 .ensures, c .before .has-bit .ensures, c .before .before .before .loop .inv .0)), omega arith)
+
+returns : tie.Need-returns Inv-loop μ-loop
+returns c =
+    let e : c .before .loop .k ≡ c .before .before .args .n = omega arith in
+    simp (sym e, c .before .loop .inv .0)
+
+pub bits-below-spec : {M : Type 1} → statement M
+bits-below-spec =
+    tie.close
+    (tie.spec
+    Inv-loop
+    μ-loop
+    loop-holds
+    (λ c κs. search needs)
+    (λ c κs. search needs)
+    (λ c. omega arith)
+    (λ c. omega arith)
+    loop-again
+    returns)

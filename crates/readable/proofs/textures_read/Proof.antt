@@ -1,0 +1,43 @@
+-- The invariant: the first k texture rows are judged.
+use mathlib.Core.Path.{_≡_, refl, sym}
+use native.Mathlib.Omega.{arith}
+use Prim.Native.Nat.{_≤_, _-_}
+use native.Mathlib.Numerals.{add-one}
+use borrow.Author.Needs.{needs}
+use Rattle.definition.specs.Readable.{texturesRead}
+use Rattle.definition.specs.Session.{session}
+use Rattle.readable.proofs.textures_read.Statement.{statement}
+use Rattle.readable.proofs.textures_read.Tie as tie
+
+abbrev Inv-loop : tie.InvT-loop
+Inv-loop s n all₀ k₀ all k = (all ≡ texturesRead (session s) k) × (k ≤ n)
+
+abbrev μ-loop : tie.MeasureT-loop
+μ-loop s n all₀ k₀ all k = n - k
+
+loop-holds : tie.Need-loop-holds Inv-loop μ-loop
+unfolding texturesRead
+loop-holds c = (refl, omega arith)
+
+loop-again : tie.Need-loop-again Inv-loop μ-loop
+unfolding texturesRead
+loop-again c = (rw add-one (simp (c .texture-right .ensures, c .before .texture .ensures, c .before .before .before .loop .inv .0)), omega arith)
+
+returns : tie.Need-returns Inv-loop μ-loop
+returns c =
+    let e : c .before .loop .k ≡ c .before .before .before .args .n = omega arith in
+    simp (sym e, c .before .loop .inv .0)
+
+pub textures-read-spec : {M : Type 1} → statement M
+textures-read-spec =
+    tie.close
+    (tie.spec
+    Inv-loop
+    μ-loop
+    loop-holds
+    (λ c κs. search needs)
+    (λ c κs. search needs)
+    (λ c. omega arith)
+    (λ c. omega arith)
+    loop-again
+    returns)

@@ -1,0 +1,301 @@
+// Which byte strings are sessions and which pass rows can be read: document 01's numbers 1 to 5. Every byte string has an
+// answer, no public function has a `requires`, and a session is read once, in time linear in its length.
+use definition::Channel;
+use definition::Slot;
+use definition::Texture;
+use definition::View;
+use formats::is_format;
+use session::HEADER_BYTES;
+use session::PASS_BYTES;
+use session::PASS_OFFSET;
+use session::TEXTURE_OFFSET;
+use session::TOTAL_LENGTH;
+use session::VIEW_OFFSET;
+use session::array_layers;
+use session::colors;
+use session::depth;
+use session::depth_stencil;
+use session::ends;
+use session::flags;
+use session::is_none;
+use session::max_colors;
+use session::max_multiview;
+use session::pass_count;
+use session::pass_start;
+use session::slot;
+use session::stencil;
+use session::texture;
+use session::texture_count;
+use session::view;
+use session::view_count;
+use session::view_start;
+use surfaces::surfaces_before;
+use wire::has_bit;
+use wire::u32_at;
+ghost use mathlib.Core.Path.{_≡_};
+ghost use Prim.Native.Nat.{_+_};
+ghost use lib.Dec.{leb};
+ghost use Rattle.definition.specs.Session as Se;
+ghost use Rattle.definition.specs.Session.{session};
+ghost use Rattle.definition.specs.Readable as Re;
+
+// The most texture rows.
+const MAX_TEXTURES: u32 = 64;
+
+// The most view rows.
+const MAX_VIEWS: u32 = 256;
+
+// The most pass rows.
+const MAX_PASSES: u32 = 100;
+
+// The most colour slots of a pass.
+const MAX_SLOTS: u32 = 8;
+
+// The most views of a multiview pass.
+const MAX_MULTIVIEWS: u32 = 32;
+
+// The largest flags field.
+const MAX_FLAGS: u32 = 15;
+
+// The largest width or height of a texture.
+const MAX_SIZE: u32 = 16384;
+
+// The largest depth, or most layers, of a texture.
+const MAX_LAYERS: u32 = 32;
+
+// The most mips of a texture.
+const MAX_MIPS: u32 = 15;
+
+// The largest usage field.
+const MAX_USAGE: u32 = 63;
+
+// The bits of a usage field.
+const USAGE_BITS: u32 = 6;
+
+// The most surfaces of a session.
+const MAX_SURFACES: u64 = 4096;
+
+// Whether n is one of the numbers from low to high.
+fn between(low: u32, high: u32, n: u32) -> bool
+    ensures { λ r. ⌜ r ≡ Re.between low high n ⌝ }
+{
+    (low <= n) & (n <= high)
+}
+
+// 1: the header is there, and the total length is the file's.
+fn length_right(s: &[u8]) -> bool
+    ensures { λ r. ⌜ r ≡ Re.lengthRight (now (s .entry)) ⌝ }
+{
+    (HEADER_BYTES <= s.len()) & (u32_at(s, TOTAL_LENGTH) as usize == s.len())
+}
+
+// Where the pass rows end.
+fn pass_end(s: &[u8]) -> usize
+    ensures { λ r. ⌜ r ≡ Se.passEnd (now (s .entry)) ⌝ }
+{
+    pass_start(s) + PASS_BYTES * (pass_count(s) as usize)
+}
+
+// 2: every other field of the header.
+fn header_right(s: &[u8]) -> bool
+    ensures { λ r. ⌜ r ≡ Re.headerRight (now (s .entry)) ⌝ }
+{
+    (texture_count(s) <= MAX_TEXTURES)
+        & (u32_at(s, TEXTURE_OFFSET) as usize == HEADER_BYTES)
+        & (view_count(s) <= MAX_VIEWS)
+        & (u32_at(s, VIEW_OFFSET) as usize == view_start(s))
+        & (pass_count(s) <= MAX_PASSES)
+        & (u32_at(s, PASS_OFFSET) as usize == pass_start(s))
+        & between(1, MAX_SLOTS, max_colors(s))
+        & (max_multiview(s) <= MAX_MULTIVIEWS)
+        & (flags(s) <= MAX_FLAGS)
+        & (pass_end(s) == u32_at(s, TOTAL_LENGTH) as usize)
+}
+
+// Whether a texture may have n samples.
+fn samples_right(n: u32) -> bool
+    ensures { λ r. ⌜ r ≡ Re.samplesRight n ⌝ }
+{
+    (n == 1) | (n == 2) | (n == 4) | (n == 8) | (n == 16)
+}
+
+// Whether a texture row can be read. Formats from 20 on need dimension 2.
+fn texture_right(t: Texture) -> bool
+    ensures { λ r. ⌜ r ≡ Re.textureRight t ⌝ }
+{
+    is_format(t.format)
+        & between(1, 3, t.dimension)
+        & ((t.format < 20) | (t.dimension == 2))
+        & between(1, MAX_SIZE, t.width)
+        & between(1, MAX_SIZE, t.height)
+        & between(1, MAX_LAYERS, t.depth)
+        & between(1, MAX_MIPS, t.mips)
+        & samples_right(t.samples)
+        & (t.usage <= MAX_USAGE)
+}
+
+// Whether each of the first n texture rows can be read.
+fn textures_read(s: &[u8], n: u32) -> bool
+    ensures { λ r. ⌜ r ≡ Re.texturesRead (session (now (s .entry))) n ⌝ }
+{
+    let mut all = true;
+    let mut k = 0u32;
+    while k < n {
+        all = all & texture_right(texture(s, k));
+        k += 1;
+    }
+    all
+}
+
+// 3: every texture row, and the number of surfaces.
+fn textures_right(s: &[u8]) -> bool
+    ensures { λ r. ⌜ r ≡ Re.texturesRight (session (now (s .entry))) ⌝ }
+{
+    let n = texture_count(s);
+    textures_read(s, n) & (surfaces_before(s, n) <= MAX_SURFACES)
+}
+
+// Whether each of the first n bits of a is one of b.
+fn bits_below(a: u32, b: u32, n: u32) -> bool
+    ensures { λ r. ⌜ r ≡ Re.bitsBelow a b n ⌝ }
+{
+    let mut all = true;
+    let mut k = 0u32;
+    while k < n {
+        all = all & (!has_bit(a, k) | has_bit(b, k));
+        k += 1;
+    }
+    all
+}
+
+// Whether the usage bits of a are among those of b.
+fn usage_among(a: u32, b: u32) -> bool
+    ensures { λ r. ⌜ r ≡ Re.usageAmong a b ⌝ }
+{
+    (a <= MAX_USAGE) & bits_below(a, b, USAGE_BITS)
+}
+
+// Whether a view of dimension v goes with a texture of dimension t.
+fn dimension_fits(v: u32, t: u32) -> bool
+    ensures { λ r. ⌜ r ≡ Re.dimensionFits v t ⌝ }
+{
+    (v == 1) & (t == 1) | (v == 6) & (t == 3) | between(2, 5, v) & (t == 2)
+}
+
+// Whether n from `first` on end within the first `count`.
+fn ends_within(first: u32, n: u32, count: u32) -> bool
+    ensures { λ r. ⌜ r ≡ leb (first + n) count ⌝ }
+{
+    first as u64 + n as u64 <= count as u64
+}
+
+// W3C "texture view creation": whether a view's ranges are non-empty and inside the texture, and its other fields fit.
+fn view_in_texture(t: Texture, v: View) -> bool
+    ensures { λ r. ⌜ r ≡ Re.viewInTexture t v ⌝ }
+{
+    dimension_fits(v.dimension, t.dimension)
+        & (1 <= v.mips)
+        & ends_within(v.mip, v.mips, t.mips)
+        & (1 <= v.layers)
+        & ends_within(v.layer, v.layers, array_layers(t))
+        & usage_among(v.usage, t.usage)
+        & (v.resolvable <= 1)
+}
+
+// Whether a view row can be read.
+fn view_right(s: &[u8], v: View) -> bool
+    ensures { λ r. ⌜ r ≡ Re.viewRight (session (now (s .entry))) v ⌝ }
+{
+    (v.texture < texture_count(s)) & view_in_texture(texture(s, v.texture), v)
+}
+
+// 4: whether each of the first n view rows can be read.
+fn views_read(s: &[u8], n: u32) -> bool
+    ensures { λ r. ⌜ r ≡ Re.viewsRead (session (now (s .entry))) n ⌝ }
+{
+    let mut all = true;
+    let mut k = 0u32;
+    while k < n {
+        all = all & view_right(s, view(s, k));
+        k += 1;
+    }
+    all
+}
+
+// The session's refusal: 1 to 4, or 0 for none. A table is read only where the header is right, so the time is bounded.
+pub fn session_refusal(s: &[u8]) -> u32
+    ensures { λ r. ⌜ r ≡ Re.sessionRefusal (now (s .entry)) ⌝ }
+{
+    if !length_right(s) {
+        return 1;
+    }
+    if !header_right(s) {
+        return 2;
+    }
+    if !textures_right(s) {
+        return 3;
+    }
+    if !views_read(s, view_count(s)) {
+        return 4;
+    }
+    0
+}
+
+// Whether a channel's fields have such values.
+fn channel_reads(c: Channel) -> bool
+    ensures { λ r. ⌜ r ≡ Re.channelReads c ⌝ }
+{
+    (c.load <= 3) & (c.store <= 2) & (c.readonly <= 1) & (c.given <= 1)
+}
+
+// Whether the depth-stencil part of a pass row can be read. The rest of an empty part is not examined.
+fn depth_stencil_reads(s: &[u8], pass: u32) -> bool
+    ensures { λ r. ⌜ r ≡ Re.depthStencilReads (session (now (s .entry))) (session (now (s .entry)) .pass pass) ⌝ }
+{
+    let v = depth_stencil(s, pass);
+    is_none(v)
+        | (v < view_count(s)) & channel_reads(depth(s, pass)) & channel_reads(stencil(s, pass))
+}
+
+// Whether a slot's resolve view is none, or a view's number.
+fn resolve_reads(s: &[u8], v: u32) -> bool
+    ensures { λ r. ⌜ r ≡ Re.resolveReads (session (now (s .entry))) v ⌝ }
+{
+    is_none(v) | (v < view_count(s))
+}
+
+// Whether a colour slot can be read. The rest of an empty slot is not examined.
+fn slot_reads(s: &[u8], c: Slot) -> bool
+    ensures { λ r. ⌜ r ≡ Re.slotReads (session (now (s .entry))) c ⌝ }
+{
+    is_none(c.view)
+        | (c.view < view_count(s))
+            & (c.sliced <= 1)
+            & resolve_reads(s, c.resolve)
+            & (c.load <= 2)
+            & (c.store <= 1)
+}
+
+// Whether each of the first n slots of a pass row can be read.
+fn slots_read(s: &[u8], pass: u32, n: u32) -> bool
+    ensures { λ r. ⌜ r ≡ Re.slotsRead (session (now (s .entry))) (session (now (s .entry)) .pass pass) n ⌝ }
+{
+    let mut all = true;
+    let mut k = 0u32;
+    while k < n {
+        all = all & slot_reads(s, slot(s, pass, k));
+        k += 1;
+    }
+    all
+}
+
+// 5: whether a pass row can be read. Slots from the colour count on are not examined.
+pub fn pass_reads(s: &[u8], pass: u32) -> bool
+    ensures { λ r. ⌜ r ≡ Re.passReads (session (now (s .entry))) (session (now (s .entry)) .pass pass) ⌝ }
+{
+    let n = colors(s, pass);
+    if n > MAX_SLOTS {
+        return false;
+    }
+    (ends(s, pass) <= 1) & depth_stencil_reads(s, pass) & slots_read(s, pass, n)
+}

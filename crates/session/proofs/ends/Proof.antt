@@ -1,0 +1,12 @@
+-- The row starts where the definition's does, and the field stands at its place there.
+use Rattle.definition.specs.Session.{session}
+use borrow.Author.Needs.{needs}
+use Rattle.session.proofs.ends.Statement.{statement}
+use Rattle.session.proofs.ends.Tie as tie
+
+returns : tie.Need-returns
+unfolding session
+returns c = simp (c .u32-at .ensures, c .before .pass-at .ensures .0)
+
+pub ends-spec : {M : Type 1} → statement M
+ends-spec = tie.close (tie.spec (λ c κs. search needs) (λ c. search needs) (λ c κs. search needs) returns)
