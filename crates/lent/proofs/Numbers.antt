@@ -1,0 +1,98 @@
+-- What is written is read back, and what stands elsewhere stays.
+use mathlib.Core.Path.{_≡_, refl, sym, ap, ap₂, _∙_}
+use mathlib.Core.Logic.{_≢_}
+use mathlib.Core.List.{List, [], _∷_, _++_}
+use mathlib.Core.Bool.{Bool, true, false, cond}
+use Prim.Native.Nat.{ℕ, zero, suc, _+_, _*_, _/_, _%_, _^_, _≤_, _<_}
+use native.Mathlib.Omega.{arith}
+use lib.Dec.{leb}
+use lib.ListN.{length, take, drop, getD, length-set}
+use lib.Seq.{getD-set-other, drop-set-lt, take-suc}
+use Rattle.definition.specs.Bytes.{u32At}
+use Rattle.wire.specs.Writing.{putBytes, putNumber}
+use Rattle.wire.proofs.Writing.{put-length, put-read}
+use Rattle.lent.specs.Numbers.{numbersAt, putNumbers}
+
+-- ── one number of k bytes
+
+-- A byte that is none of the k bytes stays.
+byte-stays : (s : List ℕ) (at n k j : ℕ) → ((i : ℕ) → i < k → j ≢ at + i) → getD (putBytes s at n k) j 0 ≡ getD s j 0
+unfolding putBytes
+byte-stays s at n zero j h = refl
+byte-stays s at n (suc k) j h =
+    getD-set-other (putBytes s at n k) (at + k) j (n / 256 ^ k % 256) 0 (h k (omega arith)) ∙ byte-stays s at n k j (λ i l. h i (omega arith))
+
+-- The same of a number, which is written whole or not at all.
+number-stays : (s : List ℕ) (at n k j : ℕ) → ((i : ℕ) → i < k → j ≢ at + i) → getD (putNumber k s at n) j 0 ≡ getD s j 0
+unfolding putNumber
+number-stays s at n k j h = go (leb (at + k) (length s))
+  where
+    go : (b : Bool) → getD (cond b (putBytes s at n k) s) j 0 ≡ getD s j 0
+    go true = byte-stays s at n k j h
+    go false = refl
+
+-- The bytes past it stay.
+pub number-past : (s : List ℕ) (at n k m : ℕ) → at + k ≤ m → drop m (putNumber k s at n) ≡ drop m s
+unfolding putNumber putBytes
+number-past s at n k m h = go (leb (at + k) (length s))
+  where
+    bytes : (i : ℕ) → i ≤ k → drop m (putBytes s at n i) ≡ drop m s
+    bytes zero l = refl
+    bytes (suc i) l = drop-set-lt m (putBytes s at n i) (at + i) (n / 256 ^ i % 256) (omega arith) ∙ bytes i (omega arith)
+
+    go : (b : Bool) → drop m (cond b (putBytes s at n k) s) ≡ drop m s
+    go true = bytes k (omega arith)
+    go false = refl
+
+-- Writing keeps the length.
+pub number-length : (s : List ℕ) (at n k : ℕ) → length (putNumber k s at n) ≡ length s
+unfolding putNumber
+number-length s at n k = go (leb (at + k) (length s))
+  where
+    go : (b : Bool) → length (cond b (putBytes s at n k) s) ≡ length s
+    go true = put-length s at n k
+    go false = refl
+
+-- ── numbers one after the other
+
+pub numbers-length : (b : List ℕ) (at : ℕ) (xs : List ℕ) (n : ℕ) → length (putNumbers b at xs n) ≡ length b
+unfolding putNumbers
+numbers-length b at xs zero = refl
+numbers-length b at xs (suc n) = number-length (putNumbers b at xs n) (at + 4 * n) (getD xs n 0) 4 ∙ numbers-length b at xs n
+
+-- A number that ends where a later one starts stays when that is written.
+u32-before : (s : List ℕ) (at n j : ℕ) → j + 4 ≤ at → u32At (putNumber 4 s at n) j ≡ u32At s j
+unfolding u32At
+u32-before s at n j h =
+    let e : (k : ℕ) → k < 4 → getD (putNumber 4 s at n) (j + k) 0 ≡ getD s (j + k) 0 = λ k l. number-stays s at n 4 (j + k) (λ i g z. omega arith) in
+    simp (number-stays s at n 4 j (λ i g z. omega arith), e 1 (omega arith), e 2 (omega arith), e 3 (omega arith))
+
+-- So the numbers before it, and any number before the first, stay.
+numbers-before : (s : List ℕ) (at at′ n m : ℕ) → at + 4 * m ≤ at′ → numbersAt (putNumber 4 s at′ n) at m ≡ numbersAt s at m
+unfolding numbersAt
+numbers-before s at at′ n zero h = refl
+numbers-before s at at′ n (suc m) h = ap₂ (λ l x. l ++ (x ∷ [])) (numbers-before s at at′ n m (omega arith)) (u32-before s at′ n (at + 4 * m) (omega arith))
+
+pub number-kept : (b : List ℕ) (at : ℕ) (xs : List ℕ) (n j : ℕ) → j + 4 ≤ at → u32At (putNumbers b at xs n) j ≡ u32At b j
+unfolding putNumbers
+number-kept b at xs zero j h = refl
+number-kept b at xs (suc n) j h = u32-before (putNumbers b at xs n) (at + 4 * n) (getD xs n 0) j (omega arith) ∙ number-kept b at xs n j h
+
+-- The bytes past the last number stay.
+pub numbers-past : (b : List ℕ) (at : ℕ) (xs : List ℕ) (n m : ℕ) → at + 4 * n ≤ m → drop m (putNumbers b at xs n) ≡ drop m b
+unfolding putNumbers
+numbers-past b at xs zero m h = refl
+numbers-past b at xs (suc n) m h = number-past (putNumbers b at xs n) (at + 4 * n) (getD xs n 0) 4 m (omega arith) ∙ numbers-past b at xs n m (omega arith)
+
+-- Numbers that are written are read back.
+pub numbers-read : (b : List ℕ) (at : ℕ) (xs : List ℕ) (n : ℕ) → at + 4 * n ≤ length b → n ≤ length xs → ((i : ℕ) → i < n → getD xs i 0 < 4294967296)
+    → numbersAt (putNumbers b at xs n) at n ≡ take n xs
+unfolding numbersAt putNumbers
+numbers-read b at xs zero h l small = refl
+numbers-read b at xs (suc n) h l small =
+    let w : List ℕ = putNumbers b at xs n in
+    let room : at + 4 * n + 4 ≤ length w = rw (numbers-length b at xs n) (omega arith) in
+    ap₂ (λ l x. l ++ (x ∷ []))
+    (numbers-before w at (at + 4 * n) (getD xs n 0) n (omega arith) ∙ numbers-read b at xs n (omega arith) (omega arith) (λ i g. small i (omega arith)))
+    (sym (put-read w (at + 4 * n) (getD xs n 0) room (small n (omega arith))))
+    ∙ sym (take-suc xs n 0 (omega arith))

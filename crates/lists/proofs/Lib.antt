@@ -1,0 +1,3 @@
+pub mod Records
+pub mod Compact
+pub mod Extend

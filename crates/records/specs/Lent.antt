@@ -1,0 +1,52 @@
+-- The lent lists: numbers that stand for surfaces (texture, mip, layer) and actions (texture, mip, mips, layer, layers, kind), one after the other.
+-- Every contract speaks of the first so many of them.
+use Prim.Native.Nat.{ℕ, zero, suc}
+use mathlib.Core.List.{List, [], _∷_}
+use lib.ListN.{getD}
+use Rattle.definition.specs.Surfaces.{surfaceAt, rangeAt}
+use Rattle.definition.specs.declared.Surface.{Surface}
+use Rattle.definition.specs.declared.Range.{Range}
+use Rattle.definition.specs.declared.Action.{Action}
+use Rattle.definition.specs.declared.MemoryInitKind.{MemoryInitKind}
+use Rattle.definition.specs.declared.MemoryInitKind.the-variants.{ImplicitlyInitialized, NeedsInitializedMemory}
+use Rattle.lists.specs.Records.{recordAt, records}
+
+-- A surface and its three numbers.
+unfoldable pub decodeSurface : List ℕ → Surface
+decodeSurface l = surfaceAt (getD l 0 0) (getD l 1 0) (getD l 2 0)
+
+abbrev pub encodeSurface : Surface → List ℕ
+encodeSurface s = s .texture ∷ s .mip ∷ s .layer ∷ []
+
+-- A kind and its number. A lent kind over 1 is refused as 6; the clauses read it as 1.
+abbrev pub decodeKind : ℕ → MemoryInitKind
+decodeKind zero = ImplicitlyInitialized
+decodeKind (suc n) = NeedsInitializedMemory
+
+abbrev pub encodeKind : MemoryInitKind → ℕ
+encodeKind ImplicitlyInitialized = 0
+encodeKind NeedsInitializedMemory = 1
+
+-- An action and its six numbers.
+abbrev pub actionOf : Range → MemoryInitKind → Action
+actionOf r k = record { range = r; kind = k }
+
+unfoldable pub decodeAction : List ℕ → Action
+decodeAction l = actionOf (rangeAt (getD l 0 0) (getD l 1 0) (getD l 2 0) (getD l 3 0) (getD l 4 0)) (decodeKind (getD l 5 0))
+
+abbrev pub encodeAction : Range → MemoryInitKind → List ℕ
+encodeAction r k = r .texture ∷ r .mip ∷ r .mips ∷ r .layer ∷ r .layers ∷ encodeKind k ∷ []
+
+-- The first n surfaces, and the one at place i.
+abbrev pub surfaces : ℕ → List ℕ → List Surface
+surfaces n l = records 3 decodeSurface n l
+
+abbrev pub surfaceIn : ℕ → List ℕ → Surface
+surfaceIn i l = recordAt 3 decodeSurface i l
+
+-- The first n actions, and the one at place i.
+abbrev pub actions : ℕ → List ℕ → List Action
+actions n l = records 6 decodeAction n l
+
+abbrev pub actionIn : ℕ → List ℕ → Action
+actionIn i l = recordAt 6 decodeAction i l

@@ -1,0 +1,133 @@
+// The records of the lent lists: surfaces of three numbers and actions of six, read and written where they stand.
+// The contracts speak of the records, so that the lists are lists of them.
+use definition::MemoryInitKind;
+use definition::Range;
+use definition::Surface;
+ghost use mathlib.Core.Path.{_≡_};
+ghost use Prim.Native.Nat.{_+_, _*_, _≤_};
+ghost use lib.ListN.{length};
+ghost use lib.Seq.{sets};
+ghost use Rattle.definition.specs.Surfaces as Surfaces;
+ghost use Rattle.records.specs.Lent.{encodeSurface, decodeKind, encodeKind, encodeAction, surfaceIn, actionIn};
+
+// x is one of the `count` numbers from `first` on. The sum of two u32 fits a u64.
+pub fn within(first: u32, count: u32, x: u32) -> bool
+    ensures { λ r. ⌜ r ≡ Surfaces.within first count x ⌝ }
+{
+    (first <= x) & ((x as u64) < (first as u64) + (count as u64))
+}
+
+// The range has the surface.
+pub fn hits(range: Range, s: Surface) -> bool
+    ensures { λ r. ⌜ r ≡ Surfaces.hits range s ⌝ }
+{
+    (s.texture == range.texture)
+        & within(range.mip, range.mips, s.mip)
+        & within(range.layer, range.layers, s.layer)
+}
+
+// The surface that a discard of the range names: its first mip and layer.
+pub fn first_of(range: Range) -> Surface
+    ensures { λ r. ⌜ r ≡ Surfaces.firstOf range ⌝ }
+{
+    Surface {
+        texture: range.texture,
+        mip: range.mip,
+        layer: range.layer,
+    }
+}
+
+// One surface as a range.
+pub fn only_range(s: Surface) -> Range
+    ensures { λ r. ⌜ r ≡ Surfaces.onlyRange s ⌝ }
+{
+    Range {
+        texture: s.texture,
+        mip: s.mip,
+        mips: 1,
+        layer: s.layer,
+        layers: 1,
+    }
+}
+
+// The surface at place i.
+pub fn surface_at(l: &[u32], i: usize) -> Surface
+    requires { ⌜ 3 * i + 3 ≤ length (now l) ⌝ }
+    ensures { λ r. ⌜ r ≡ surfaceIn i (now (l .entry)) ⌝ }
+{
+    let at = 3 * i;
+    Surface {
+        texture: l[at],
+        mip: l[at + 1],
+        layer: l[at + 2],
+    }
+}
+
+// A surface goes to place i.
+pub fn put_surface(l: &mut [u32], i: usize, s: Surface)
+    requires { ⌜ 3 * i + 3 ≤ length (now l) ⌝ }
+    ensures { λ _. ⌜ now (l .exit) ≡ sets (now (l .entry)) (3 * i) (encodeSurface s) ⌝ }
+{
+    let at = 3 * i;
+    l[at] = s.texture;
+    l[at + 1] = s.mip;
+    l[at + 2] = s.layer;
+}
+
+// A kind's number.
+pub fn encode_kind(kind: MemoryInitKind) -> u32
+    ensures { λ r. ⌜ r ≡ encodeKind kind ⌝ }
+{
+    match kind {
+        MemoryInitKind::ImplicitlyInitialized => 0,
+        MemoryInitKind::NeedsInitializedMemory => 1,
+    }
+}
+
+// The kind of a number.
+pub fn decode_kind(number: u32) -> MemoryInitKind
+    ensures { λ r. ⌜ r ≡ decodeKind number ⌝ }
+{
+    if number == 0 {
+        MemoryInitKind::ImplicitlyInitialized
+    } else {
+        MemoryInitKind::NeedsInitializedMemory
+    }
+}
+
+// An action goes to place i.
+pub fn put_action(l: &mut [u32], i: usize, range: Range, kind: MemoryInitKind)
+    requires { ⌜ 6 * i + 6 ≤ length (now l) ⌝ }
+    ensures { λ _. ⌜ now (l .exit) ≡ sets (now (l .entry)) (6 * i) (encodeAction range kind) ⌝ }
+{
+    let at = 6 * i;
+    l[at] = range.texture;
+    l[at + 1] = range.mip;
+    l[at + 2] = range.mips;
+    l[at + 3] = range.layer;
+    l[at + 4] = range.layers;
+    l[at + 5] = encode_kind(kind);
+}
+
+// The range of the action at place i.
+pub fn range_at(l: &[u32], i: usize) -> Range
+    requires { ⌜ 6 * i + 6 ≤ length (now l) ⌝ }
+    ensures { λ r. ⌜ r ≡ actionIn i (now (l .entry)) .range ⌝ }
+{
+    let at = 6 * i;
+    Range {
+        texture: l[at],
+        mip: l[at + 1],
+        mips: l[at + 2],
+        layer: l[at + 3],
+        layers: l[at + 4],
+    }
+}
+
+// The kind of the action at place i.
+pub fn kind_at(l: &[u32], i: usize) -> MemoryInitKind
+    requires { ⌜ 6 * i + 6 ≤ length (now l) ⌝ }
+    ensures { λ r. ⌜ r ≡ actionIn i (now (l .entry)) .kind ⌝ }
+{
+    decode_kind(l[6 * i + 5])
+}
