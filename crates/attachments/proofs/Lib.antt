@@ -1,0 +1,2 @@
+pub mod DepthStencil
+pub mod Slots

@@ -1,0 +1,20 @@
+-- What each call promises, put together as the definition puts it together.
+use borrow.Author.Needs.{needs}
+use Rattle.attachments.proofs.stencil_ops.Statement.{statement}
+use Rattle.attachments.proofs.stencil_ops.Tie as tie
+
+returns : tie.Need-returns
+returns c =
+    let c4 = c .before .before .before .before in
+    simp (c .channel .ensures, c .before .stencil-resolved .ensures, c .before .before .stencil .ensures, c .before .before .before .strict .ensures, c4 .has-stencil .ensures)
+
+pub stencil-ops-spec : {M : Type 1} → statement M
+stencil-ops-spec =
+    tie.close
+    (tie.spec
+    (λ c κs. search needs)
+    (λ c κs. search needs)
+    (λ c κs. search needs)
+    (λ c κs. search needs)
+    (λ c κs. search needs)
+    returns)

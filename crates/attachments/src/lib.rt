@@ -1,0 +1,253 @@
+// The attachments of a pass, each alone: what it does to the lists and what it replies (RenderPassInfo::start, finish).
+// Every function is total, and its contract is an equation with the definition, under the translations of specs/.
+use channel::color::black;
+use channel::color::ops_of;
+use definition::Attachment;
+use definition::Range;
+use definition::Slot;
+use definition::View;
+use depth_channel::ResolvedDepth;
+use depth_channel::depth_resolved;
+use formats::has_depth;
+use formats::has_stencil;
+use memory_init::InitKind;
+use plan::COLOR_TARGET;
+use plan::NO_ASPECT;
+use plan::color_plan;
+use plan::depth_stencil_plan;
+use plan::depth_stencil_usage;
+use plan::resolve_plan;
+use session::depth;
+use session::depth_stencil;
+use session::format_of;
+use session::is_none;
+use session::read_only_depth_stencil;
+use session::stencil;
+use session::strict;
+use session::texture_binding;
+use session::view;
+use session::view_range;
+use stencil_channel::ResolvedStencil;
+use stencil_channel::stencil_resolved;
+ghost use mathlib.Core.Path.{_≡_};
+ghost use Rattle.definition.specs.Formats.{hasDepth, hasStencil};
+ghost use Rattle.definition.specs.Session as Se;
+ghost use Rattle.definition.specs.Session.{Session, session};
+ghost use Rattle.definition.specs.Attachments as At;
+ghost use Rattle.definition.specs.Pass.{attachmentReply, depthStencilUsage};
+ghost use Rattle.definition.specs.declared.Range as Ra;
+ghost use Rattle.depth_channel.specs.Depth as De;
+ghost use Rattle.stencil_channel.specs.Stencil as St;
+ghost use Rattle.attachments.specs.Attached.{PlannedAs, Present, Absent, PartOf, blank, depthStencilIn};
+
+// What an attachment does to the lists: of its surfaces, the action that it registers and whether it lists a discard.
+pub struct Planned {
+    pub range: Range,
+    pub kind: InitKind,
+    pub discards: bool,
+}
+
+// The depth-stencil attachment of a pass, if it has one: what it does to the lists, what it replies, which channels it
+// only reads, and the aspect that is cleared after the pass.
+pub struct DepthStencilPart {
+    pub present: bool,
+    pub planned: Planned,
+    pub reply: Attachment,
+    pub is_depth_read_only: bool,
+    pub is_stencil_read_only: bool,
+    pub divergent: u32,
+}
+
+// A record of a reply that stands for no attachment.
+pub fn empty_reply() -> Attachment
+    ensures { λ r. ⌜ r ≡ blank ⌝ }
+{
+    Attachment {
+        view: 0,
+        usage: 0,
+        ops: 0,
+        stencil_ops: 0,
+        color: black(),
+        depth: 0.0,
+        stencil: 0,
+    }
+}
+
+// ── depth-stencil
+
+// The depth channel of a pass, resolved for a format.
+fn depth_ops(s: &[u8], pass: u32, format: u32) -> ResolvedDepth
+    ensures { λ r. ⌜ De.opsIn r ≡ At.depthOps (session (now (s .entry))) (session (now (s .entry)) .pass pass) format ⌝ }
+{
+    let answer = depth_resolved(has_depth(format), strict(s), depth(s, pass));
+    answer.channel()
+}
+
+// Its stencil channel.
+fn stencil_ops(s: &[u8], pass: u32, format: u32) -> ResolvedStencil
+    ensures { λ r. ⌜ St.opsIn r ≡ At.stencilOps (session (now (s .entry))) (session (now (s .entry)) .pass pass) format ⌝ }
+{
+    let answer = stencil_resolved(has_stencil(format), strict(s), stencil(s, pass));
+    answer.channel()
+}
+
+// The usage of a depth-stencil view v.
+fn usage_of(s: &[u8], v: View, depth: ResolvedDepth, stencil: ResolvedStencil) -> u32
+    ensures { λ r. ⌜ r ≡ depthStencilUsage (session (now (s .entry))) v (De.opsIn depth .readOnly) (St.opsIn stencil .readOnly) ⌝ }
+{
+    depth_stencil_usage(
+        depth,
+        stencil,
+        read_only_depth_stencil(s),
+        texture_binding(v),
+    )
+}
+
+// What a depth-stencil attachment of view k with these channels replies.
+fn depth_stencil_reply(
+    k: u32,
+    usage: u32,
+    depth: ResolvedDepth,
+    stencil: ResolvedStencil,
+) -> Attachment
+    ensures { λ r. ⌜ r ≡ depthStencilIn k usage (De.opsIn depth) (St.opsIn stencil) ⌝ }
+{
+    Attachment {
+        view: k,
+        usage: usage,
+        ops: depth.hal_ops(),
+        stencil_ops: stencil.hal_ops(),
+        color: black(),
+        depth: depth.clear_value(),
+        stencil: stencil.clear_value(),
+    }
+}
+
+// The depth-stencil attachment of view k, a view of this format, with these channels.
+fn depth_stencil_of(
+    s: &[u8],
+    k: u32,
+    format: u32,
+    depth: ResolvedDepth,
+    stencil: ResolvedStencil,
+) -> DepthStencilPart
+    ensures { λ r. ⌜ Present (session (now (s .entry))) r (At.depthStencil k (Se.viewRange (session (now (s .entry)) .view k)) (hasDepth format) (hasStencil format) (De.opsIn depth) (St.opsIn stencil)) ⌝ }
+{
+    let v = view(s, k);
+    let plan = depth_stencil_plan(has_depth(format), has_stencil(format), depth, stencil);
+    let kind = plan.kind;
+    let usage = usage_of(s, v, depth, stencil);
+    DepthStencilPart {
+        present: true,
+        planned: Planned {
+            range: view_range(v),
+            kind: kind,
+            discards: plan.discards,
+        },
+        reply: depth_stencil_reply(k, usage, depth, stencil),
+        is_depth_read_only: depth.is_readonly(),
+        is_stencil_read_only: stencil.is_readonly(),
+        divergent: plan.divergent,
+    }
+}
+
+// No depth-stencil attachment.
+fn no_depth_stencil() -> DepthStencilPart
+    ensures { λ r. ⌜ Absent r ⌝ }
+{
+    DepthStencilPart {
+        present: false,
+        planned: Planned {
+            range: Range {
+                texture: 0,
+                mip: 0,
+                mips: 0,
+                layer: 0,
+                layers: 0,
+            },
+            kind: InitKind::None,
+            discards: false,
+        },
+        reply: empty_reply(),
+        is_depth_read_only: false,
+        is_stencil_read_only: false,
+        divergent: NO_ASPECT,
+    }
+}
+
+// The depth-stencil attachment of a pass, with its channels resolved.
+pub fn depth_stencil_part(s: &[u8], pass: u32) -> DepthStencilPart
+    ensures { λ r. ⌜ PartOf (session (now (s .entry))) r (At.depthStencilPart (session (now (s .entry))) (session (now (s .entry)) .pass pass)) ⌝ }
+{
+    let k = depth_stencil(s, pass);
+    if is_none(k) {
+        return no_depth_stencil();
+    }
+    let format = format_of(s, view(s, k));
+    depth_stencil_of(
+        s,
+        k,
+        format,
+        depth_ops(s, pass, format),
+        stencil_ops(s, pass, format),
+    )
+}
+
+// ── colours and resolve targets
+
+// What a colour does to the lists.
+pub fn color_planned(s: &[u8], c: Slot) -> Planned
+    ensures { λ r. ⌜ PlannedAs r (At.colorOf (session (now (s .entry))) c) ⌝ }
+{
+    let plan = color_plan(ops_of(c));
+    let kind = plan.kind;
+    Planned {
+        range: view_range(view(s, c.view)),
+        kind: kind,
+        discards: plan.discards,
+    }
+}
+
+// What a resolve target does to the lists.
+pub fn resolve_planned(s: &[u8], target: u32) -> Planned
+    ensures { λ r. ⌜ PlannedAs r (At.resolveTo target (Se.viewRange (session (now (s .entry)) .view target))) ⌝ }
+{
+    let plan = resolve_plan();
+    let kind = plan.kind;
+    Planned {
+        range: view_range(view(s, target)),
+        kind: kind,
+        discards: plan.discards,
+    }
+}
+
+// What a colour replies. A value that is not cleared is zero.
+pub fn color_reply(c: Slot) -> Attachment
+    ensures { λ r. ⌜ ((S : Session) → r ≡ attachmentReply S (At.colorOf S c)) ⌝ }
+{
+    let ops = ops_of(c);
+    Attachment {
+        view: c.view,
+        usage: COLOR_TARGET,
+        ops: ops.hal_ops(),
+        stencil_ops: 0,
+        color: ops.clear_value(),
+        depth: 0.0,
+        stencil: 0,
+    }
+}
+
+// What a resolve target replies: it has no operations.
+pub fn resolve_reply(target: u32) -> Attachment
+    ensures { λ r. ⌜ ((S : Session) (range : Ra.Range) → r ≡ attachmentReply S (At.resolveTo target range)) ⌝ }
+{
+    Attachment {
+        view: target,
+        usage: COLOR_TARGET,
+        ops: 0,
+        stencil_ops: 0,
+        color: black(),
+        depth: 0.0,
+        stencil: 0,
+    }
+}

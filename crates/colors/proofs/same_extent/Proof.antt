@@ -1,0 +1,23 @@
+-- What each call promises, put together as the definition puts it together.
+use borrow.Author.Needs.{needs}
+use Rattle.colors.proofs.same_extent.Statement.{statement}
+use Rattle.colors.proofs.same_extent.Tie as tie
+
+returns : tie.Need-returns
+returns c =
+    simp (
+      c .height-of2 .ensures,
+      c .before .height-of .ensures,
+      c .before .before .width-of2 .ensures,
+      c .before .before .before .width-of .ensures,
+    )
+
+pub same-extent-spec : {M : Type 1} → statement M
+same-extent-spec =
+    tie.close
+    (tie.spec
+    (λ c κs. search needs)
+    (λ c κs. search needs)
+    (λ c κs. search needs)
+    (λ c κs. search needs)
+    returns)

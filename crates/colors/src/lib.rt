@@ -1,0 +1,235 @@
+// Colour slots and resolve targets: numbers 37 to 45 and 48, and the views of a pass in order, depth-stencil first.
+// Every public function is total, and its contract is an equation with the definition.
+use definition::Progress;
+use definition::Seen;
+use definition::Slot;
+use definition::Verdict;
+use definition::View;
+use formats::is_color;
+use session::depth_of;
+use session::depth_stencil;
+use session::format_of;
+use session::height_of;
+use session::is_d2;
+use session::is_d2_array;
+use session::is_d3;
+use session::is_none;
+use session::samples_of;
+use session::slot;
+use session::transient;
+use session::view;
+use session::width_of;
+use verdict::AT_DEPTH_STENCIL;
+use verdict::either;
+use verdict::fine;
+use verdict::is_fine;
+use verdict::then;
+use verdict::unless;
+use verdict::unless_against;
+use views::add_view;
+use views::check_multiview;
+use views::depth_stencil_view;
+use views::none_seen;
+use views::overlap::check_attachment_overlap;
+use views::overlap::check_resolve_overlap;
+use views::renderable;
+use views::see_view;
+ghost use mathlib.Core.Path.{_≡_};
+ghost use mathlib.Core.List.{_++_};
+ghost use Prim.Native.Nat.{_<_, _≤_, min};
+ghost use Rattle.definition.specs.Sizes.{maxSlots};
+ghost use Rattle.definition.specs.Session.{session};
+ghost use Rattle.definition.specs.Views as Vw;
+ghost use Rattle.definition.specs.Check as Ck;
+ghost use Rattle.views.specs.Taken.{takenIn};
+ghost use Rattle.colors.specs.Resolve.{sameExtent, targetView, targetOf};
+
+// The most colour slots of a pass, and so the place of the first resolve target.
+const MAX_COLOR_ATTACHMENTS: u32 = 8;
+
+// 39, 38 and 40: a slice is given for a D3 view, inside its mip's depth, and for no other.
+pub fn slice_verdict(s: &[u8], c: Slot, v: View, place: u32) -> Verdict
+    ensures { λ r. ⌜ r ≡ Vw.sliceVerdict (session (now (s .entry))) c v place ⌝ }
+{
+    let given = unless(c.sliced == 1, 39, place);
+    let inside = unless(c.slice < depth_of(s, v), 38, place);
+    let absent = unless(c.sliced == 0, 40, place);
+    either(is_d3(v), then(given, inside), absent)
+}
+
+// The colour view v of slot k: 30 to 41.
+pub fn color_view(s: &[u8], pass: u32, seen: Seen, c: Slot, v: View, k: u32) -> Verdict
+    ensures { λ r. ⌜ r ≡ Vw.colorView (session (now (s .entry))) seen (takenIn (now (s .entry)) pass k) c v k ⌝ }
+{
+    let layers = check_multiview(s, seen, v, k);
+    let fit = add_view(s, seen, v, k);
+    let format = unless(is_color(format_of(s, v)), 37, k);
+    let slice = slice_verdict(s, c, v, k);
+    let free = check_attachment_overlap(s, pass, k, v, c.slice, k);
+    then(layers, then(fit, then(format, then(slice, free))))
+}
+
+// Whether two views have the same width and height.
+fn same_extent(s: &[u8], v: View, w: View) -> bool
+    ensures { λ r. ⌜ r ≡ sameExtent (session (now (s .entry))) v w ⌝ }
+{
+    (width_of(s, v) == width_of(s, w)) & (height_of(s, v) == height_of(s, w))
+}
+
+// A resolve target by itself: 30 to 33, 48, 41 and 34. Its colour view v is taken, and so is what the slots before k take.
+fn target_view(
+    s: &[u8],
+    pass: u32,
+    seen: Seen,
+    k: u32,
+    v: View,
+    slice: u32,
+    target: View,
+    place: u32,
+) -> Verdict
+    ensures { λ r. ⌜ r ≡ targetView (session (now (s .entry))) seen (Vw.takes v slice ++ takenIn (now (s .entry)) pass k) target place ⌝ }
+{
+    let layers = check_multiview(s, seen, target, place);
+    let flat = unless(is_d2(target) | is_d2_array(target), 48, place);
+    let free = check_resolve_overlap(s, pass, k, v, slice, target, place);
+    let fit = unless(renderable(target), 34, place);
+    then(layers, then(flat, then(free, fit)))
+}
+
+// A resolve target against its colour view v: 35 and 42 to 45.
+fn target_of(s: &[u8], seen: Seen, v: View, target: View, place: u32) -> Verdict
+    ensures { λ r. ⌜ r ≡ targetOf (session (now (s .entry))) seen v target place ⌝ }
+{
+    let resolves = (samples_of(s, v) != 1) & (samples_of(s, target) == 1);
+    let extent = unless_against(same_extent(s, v, target), 35, place, seen.last);
+    let samples = unless(resolves, 42, place);
+    let format = unless(format_of(s, v) == format_of(s, target), 43, place);
+    let resolvable = unless(target.resolvable == 1, 44, place);
+    let kept = unless(!transient(target), 45, place);
+    then(extent, then(samples, then(format, then(resolvable, kept))))
+}
+
+// The resolve target of slot k, whose colour view is v: 30 to 33, 48, 41, 34, 35, 42 to 45.
+pub fn resolve_view(
+    s: &[u8],
+    pass: u32,
+    seen: Seen,
+    k: u32,
+    v: View,
+    slice: u32,
+    target: View,
+    place: u32,
+) -> Verdict
+    ensures { λ r. ⌜ r ≡ Vw.resolveView (session (now (s .entry))) seen (Vw.takes v slice ++ takenIn (now (s .entry)) pass k) v target place ⌝ }
+{
+    then(
+        target_view(s, pass, seen, k, v, slice, target, place),
+        target_of(s, seen, v, target, place),
+    )
+}
+
+// The depth-stencil view of the pass, where it has one.
+pub fn depth_stencil_step(s: &[u8], pass: u32) -> Progress
+    ensures { λ r. ⌜ r ≡ Ck.depthStencilStep (session (now (s .entry))) (session (now (s .entry)) .pass pass) ⌝ }
+{
+    let k = depth_stencil(s, pass);
+    let seen = none_seen();
+    if is_none(k) {
+        return Progress {
+            verdict: fine(),
+            seen: seen,
+        };
+    }
+    let v = view(s, k);
+    Progress {
+        verdict: depth_stencil_view(s, v),
+        seen: see_view(s, seen, v, AT_DEPTH_STENCIL),
+    }
+}
+
+// The resolve target of slot k, whose colour view is v, where it has one.
+fn resolve_step(s: &[u8], pass: u32, seen: Seen, c: Slot, v: View, k: u32) -> Progress
+    requires { ⌜ k < maxSlots ⌝ }
+    ensures { λ r. ⌜ r ≡ Ck.resolveStep (session (now (s .entry))) seen (takenIn (now (s .entry)) pass k) c v k ⌝ }
+{
+    if is_none(c.resolve) {
+        return Progress {
+            verdict: fine(),
+            seen: seen,
+        };
+    }
+    let place = MAX_COLOR_ATTACHMENTS + k;
+    let target = view(s, c.resolve);
+    Progress {
+        verdict: resolve_view(s, pass, seen, k, v, c.slice, target, place),
+        seen: seen,
+    }
+}
+
+// The colour view v of slot k, then its resolve target.
+fn color_step(s: &[u8], pass: u32, seen: Seen, c: Slot, v: View, k: u32) -> Progress
+    requires { ⌜ k < maxSlots ⌝ }
+    ensures { λ r. ⌜ r ≡ Ck.colorStep (session (now (s .entry))) seen (takenIn (now (s .entry)) pass k) c v k ⌝ }
+{
+    let color = color_view(s, pass, seen, c, v, k);
+    if is_fine(color) {
+        return resolve_step(s, pass, see_view(s, seen, v, k), c, v, k);
+    }
+    Progress {
+        verdict: color,
+        seen: seen,
+    }
+}
+
+// Slot k, where it is not empty.
+fn slot_step(s: &[u8], pass: u32, k: u32, seen: Seen) -> Progress
+    requires { ⌜ k < maxSlots ⌝ }
+    ensures { λ r. ⌜ r ≡ Ck.slotStep (session (now (s .entry))) (session (now (s .entry)) .pass pass) k seen ⌝ }
+{
+    let c = slot(s, pass, k);
+    if is_none(c.view) {
+        return Progress {
+            verdict: fine(),
+            seen: seen,
+        };
+    }
+    color_step(s, pass, seen, c, view(s, c.view), k)
+}
+
+// Slot k after a: nothing more once the pass is refused.
+fn next_slot(s: &[u8], pass: u32, k: u32, a: Progress) -> Progress
+    requires { ⌜ k < maxSlots ⌝ }
+    ensures { λ r. ⌜ r ≡ Ck.nextSlot (session (now (s .entry))) (session (now (s .entry)) .pass pass) k a ⌝ }
+{
+    let judged = a.verdict;
+    if is_fine(judged) {
+        let seen = a.seen;
+        return slot_step(s, pass, k, seen);
+    }
+    a
+}
+
+// The smaller of n and the most colour slots.
+fn slots_of(n: u32) -> u32
+    ensures { λ r. ⌜ (r ≡ min n maxSlots) × (r ≤ maxSlots) ⌝ }
+{
+    if n < MAX_COLOR_ATTACHMENTS {
+        n
+    } else {
+        MAX_COLOR_ATTACHMENTS
+    }
+}
+
+// The first n slots, after a. No more than eight are looked at: a pass of more is refused as 5.
+pub fn slot_steps(s: &[u8], pass: u32, a: Progress, n: u32) -> Progress
+    ensures { λ r. ⌜ r ≡ Ck.slotSteps (session (now (s .entry))) (session (now (s .entry)) .pass pass) a (min n maxSlots) ⌝ }
+{
+    let slots = slots_of(n);
+    let mut b = a;
+    let mut k = 0u32;
+    while k < slots {
+        b = next_slot(s, pass, k, b);
+        k += 1;
+    }
+    b
+}

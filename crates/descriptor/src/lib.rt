@@ -1,0 +1,122 @@
+// The operations that a pass asks for: numbers 10 to 26, in document 01's order (fill_arc_desc).
+// Every function is total, and its contract is an equation with the definition.
+use channel::color;
+use channel::store_op;
+use definition::Channel;
+use definition::Slot;
+use definition::Verdict;
+use depth_channel::depth_channel;
+use depth_channel::depth_resolved;
+use formats::has_depth;
+use formats::has_stencil;
+use formats::is_depth_stencil;
+use session::colors;
+use session::depth_stencil;
+use session::format_of;
+use session::is_none;
+use session::max_colors;
+use session::slot;
+use session::strict;
+use session::transient;
+use session::view;
+use stencil_channel::stencil_channel;
+use stencil_channel::stencil_resolved;
+use verdict::AT_DEPTH_STENCIL;
+use verdict::NOWHERE;
+use verdict::either;
+use verdict::fine;
+use verdict::refused_at;
+use verdict::then;
+use verdict::unless;
+ghost use mathlib.Core.Path.{_≡_};
+ghost use Rattle.definition.specs.Check as Ck;
+ghost use Rattle.definition.specs.Session.{session};
+
+// 11 and 12, of slot k.
+fn slot_ops(s: &[u8], c: Slot, k: u32) -> Verdict
+    ensures { λ r. ⌜ r ≡ Ck.slotOps (session (now (s .entry))) c k ⌝ }
+{
+    if is_none(c.view) {
+        return fine();
+    }
+    let load = color::load_op(c.load, c.clear);
+    let store = store_op(c.store);
+    let cared = !(color::ignores(load) & strict(s));
+    let lasting = !transient(view(s, c.view));
+    let passing = color::check_transient_attachment_ops(load, store);
+    then(unless(cared, 11, k), unless(lasting | passing, 12, k))
+}
+
+// Of the first n slots, in order.
+fn color_ops(s: &[u8], pass: u32, n: u32) -> Verdict
+    ensures { λ r. ⌜ r ≡ Ck.colorOps (session (now (s .entry))) (session (now (s .entry)) .pass pass) n ⌝ }
+{
+    let mut judged = fine();
+    let mut k = 0u32;
+    while k < n {
+        judged = then(judged, slot_ops(s, slot(s, pass, k), k));
+        k += 1;
+    }
+    judged
+}
+
+// 13 to 26, of a depth-stencil view of this format: 14 to 24 only for an aspect that it has.
+fn channel_ops(
+    strict: bool,
+    transient: bool,
+    format: u32,
+    depth: Channel,
+    stencil: Channel,
+) -> Verdict
+    ensures { λ r. ⌜ r ≡ Ck.channelOps strict transient format depth stencil ⌝ }
+{
+    let has_depth = has_depth(format);
+    let has_stencil = has_stencil(format);
+    let aspects = unless(is_depth_stencil(format), 13, AT_DEPTH_STENCIL);
+    let passing_depth = either(
+        transient & has_depth,
+        depth_channel(depth).check_transient(14, 15),
+        fine(),
+    );
+    let passing_stencil = either(
+        transient & has_stencil,
+        stencil_channel(stencil).check_transient(16, 17),
+        fine(),
+    );
+    let depth_ops = depth_resolved(has_depth, strict, depth).verdict();
+    let stencil_ops = stencil_resolved(has_stencil, strict, stencil).verdict();
+    let resolved = then(depth_ops, stencil_ops);
+    then(
+        aspects,
+        then(passing_depth, then(passing_stencil, resolved)),
+    )
+}
+
+// The same of a pass, where it has a depth-stencil view.
+fn depth_stencil_ops(s: &[u8], pass: u32) -> Verdict
+    ensures { λ r. ⌜ r ≡ Ck.depthStencilOps (session (now (s .entry))) (session (now (s .entry)) .pass pass) ⌝ }
+{
+    let k = depth_stencil(s, pass);
+    if is_none(k) {
+        return fine();
+    }
+    let v = view(s, k);
+    channel_ops(
+        strict(s),
+        transient(v),
+        format_of(s, v),
+        session::depth(s, pass),
+        session::stencil(s, pass),
+    )
+}
+
+// 10 to 26. A pass of more colours than there may be is not looked at further.
+pub fn fill_arc_desc(s: &[u8], pass: u32) -> Verdict
+    ensures { λ r. ⌜ r ≡ Ck.opsVerdict (session (now (s .entry))) (session (now (s .entry)) .pass pass) ⌝ }
+{
+    let n = colors(s, pass);
+    if n > max_colors(s) {
+        return refused_at(10, NOWHERE);
+    }
+    then(color_ops(s, pass, n), depth_stencil_ops(s, pass))
+}

@@ -1,0 +1,167 @@
+// What an attachment does to the lists: the action it registers, whether it lists a discard, and the aspect that diverges.
+// Every function is total, and its contract is an equation with the definition, under the translations of specs/.
+use channel::color;
+use channel::color::ColorOps;
+use channel::stores;
+use definition::MemoryInitKind;
+use depth_channel::ResolvedDepth;
+use memory_init::InitKind;
+use stencil_channel::ResolvedStencil;
+ghost use mathlib.Core.Path.{_≡_};
+ghost use mathlib.Core.Bool.{cond, not, false};
+ghost use mathlib.Core.Option.{some};
+ghost use Rattle.definition.specs.Attachments as At;
+ghost use Rattle.channel.specs.Color as Co;
+ghost use Rattle.depth_channel.specs.Depth as De;
+ghost use Rattle.stencil_channel.specs.Stencil as St;
+ghost use Rattle.memory_init.specs.Lent.{initKind};
+ghost use Rattle.plan.specs.Plan.{kindBy, plans, plansRegular, plansDiverged, plansDepthStencil, usageBy};
+ghost use Rattle.definition.specs.declared.MemoryInitKind.the-variants.{ImplicitlyInitialized};
+
+// TextureUses.
+pub const COLOR_TARGET: u32 = 1;
+
+pub const DEPTH_STENCIL_READ: u32 = 2;
+
+pub const DEPTH_STENCIL_READ_RESOURCE: u32 = 3;
+
+pub const DEPTH_STENCIL_WRITE: u32 = 4;
+
+// The aspect that diverges.
+pub const NO_ASPECT: u32 = 0;
+
+pub const DEPTH: u32 = 1;
+
+pub const STENCIL: u32 = 2;
+
+pub struct Plan {
+    pub kind: InitKind,
+    pub discards: bool,
+    pub divergent: u32,
+}
+
+fn either(test: bool, a: InitKind, b: InitKind) -> InitKind
+    ensures { λ r. ⌜ initKind r ≡ cond test (initKind a) (initKind b) ⌝ }
+{
+    if test { a } else { b }
+}
+
+fn pick(test: bool, a: u32, b: u32) -> u32
+    ensures { λ r. ⌜ r ≡ cond test a b ⌝ }
+{
+    if test { a } else { b }
+}
+
+// add_pass_texture_init_actions, of operations that load and store so.
+fn init_actions(loads: bool, keeps: bool) -> Plan
+    ensures { λ r. ⌜ plans r (kindBy loads keeps) (not keeps) 0 ⌝ }
+{
+    let needs = InitKind::Some(MemoryInitKind::NeedsInitializedMemory);
+    let implicit = InitKind::Some(MemoryInitKind::ImplicitlyInitialized);
+    Plan {
+        kind: either(loads, needs, either(keeps, implicit, InitKind::None)),
+        discards: !keeps,
+        divergent: NO_ASPECT,
+    }
+}
+
+// The plan of a colour attachment.
+pub fn color_plan(ops: ColorOps) -> Plan
+    ensures { λ r. ⌜ plansRegular r (Co.opsIn ops) ⌝ }
+{
+    let load = ops.load;
+    let store = ops.store;
+    init_actions(color::loads(load), stores(store))
+}
+
+// The plan of a resolve target, which is written whole.
+pub fn resolve_plan() -> Plan
+    ensures { λ r. ⌜ plans r (some ImplicitlyInitialized) false 0 ⌝ }
+{
+    Plan {
+        kind: InitKind::Some(MemoryInitKind::ImplicitlyInitialized),
+        discards: false,
+        divergent: NO_ASPECT,
+    }
+}
+
+fn depth_plan(depth: ResolvedDepth) -> Plan
+    ensures { λ r. ⌜ plansRegular r (De.opsIn depth) ⌝ }
+{
+    init_actions(
+        depth_channel::loads(depth.load_op()),
+        stores(depth.store_op()),
+    )
+}
+
+fn stencil_plan(stencil: ResolvedStencil) -> Plan
+    ensures { λ r. ⌜ plansRegular r (St.opsIn stencil) ⌝ }
+{
+    init_actions(
+        stencil_channel::loads(stencil.load_op()),
+        stores(stencil.store_op()),
+    )
+}
+
+// Whether the depth channel decides for both: the format has no stencil, or both load and store alike.
+fn by_depth(has_stencil: bool, depth: ResolvedDepth, stencil: ResolvedStencil) -> bool
+    ensures { λ r. ⌜ r ≡ At.byDepth «has_stencil» (De.opsIn depth) (St.opsIn stencil) ⌝ }
+{
+    let d = depth.load_op();
+    let s = stencil.load_op();
+    let alike = (stencil_channel::loads(s) == depth_channel::loads(d))
+        & (stencil_channel::ignores(s) == depth_channel::ignores(d));
+    (!has_stencil) | (alike & (stores(stencil.store_op()) == stores(depth.store_op())))
+}
+
+// Of two channels that differ: a needed action if one of them loads, an implicit one if one of them stores.
+fn diverged_plan(depth: ResolvedDepth, stencil: ResolvedStencil) -> Plan
+    ensures { λ r. ⌜ plansDiverged r (De.opsIn depth) (St.opsIn stencil) ⌝ }
+{
+    let needs = InitKind::Some(MemoryInitKind::NeedsInitializedMemory);
+    let implicit = InitKind::Some(MemoryInitKind::ImplicitlyInitialized);
+    let loads = depth_channel::loads(depth.load_op()) | stencil_channel::loads(stencil.load_op());
+    let d = stores(depth.store_op());
+    let s = stores(stencil.store_op());
+    Plan {
+        kind: either(loads, needs, either(d == s, InitKind::None, implicit)),
+        discards: (!d) & (!s),
+        divergent: pick(d == s, NO_ASPECT, pick(d, STENCIL, DEPTH)),
+    }
+}
+
+// The depth-stencil part of start, for the aspects of the format.
+pub fn depth_stencil_plan(
+    has_depth: bool,
+    has_stencil: bool,
+    depth: ResolvedDepth,
+    stencil: ResolvedStencil,
+) -> Plan
+    ensures { λ r. ⌜ plansDepthStencil r «has_depth» «has_stencil» (De.opsIn depth) (St.opsIn stencil) ⌝ }
+{
+    if by_depth(has_stencil, depth, stencil) {
+        return depth_plan(depth);
+    }
+    if has_depth {
+        diverged_plan(depth, stencil)
+    } else {
+        stencil_plan(stencil)
+    }
+}
+
+// The usage of a depth-stencil attachment: it is read where both channels are read-only and the feature is there.
+pub fn depth_stencil_usage(
+    depth: ResolvedDepth,
+    stencil: ResolvedStencil,
+    feature: bool,
+    binding: bool,
+) -> u32
+    ensures { λ r. ⌜ r ≡ usageBy (De.opsIn depth .readOnly) (St.opsIn stencil .readOnly) feature binding ⌝ }
+{
+    let read = depth.is_readonly() & stencil.is_readonly() & feature;
+    pick(
+        read,
+        pick(binding, DEPTH_STENCIL_READ_RESOURCE, DEPTH_STENCIL_READ),
+        DEPTH_STENCIL_WRITE,
+    )
+}

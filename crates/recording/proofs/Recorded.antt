@@ -1,0 +1,188 @@
+-- Attachments are recorded one after another, and what fits of a pass fits of each part of it.
+use Prim.Native.Nat.{ℕ, zero, suc, _+_, _≤_, _<_}
+use native.Mathlib.Omega.{arith}
+use mathlib.Core.Path.{_≡_, refl, sym, ap, subst, _∙_}
+use mathlib.Core.Bool.{Bool, true, false}
+use mathlib.Core.List.{List, [], _∷_, _++_, append-assoc}
+use mathlib.Core.Option.{Option, none, some}
+use lib.ListN.{length, length-append}
+use Rattle.definition.specs.Sizes.{maxDiscards}
+use Rattle.definition.specs.Session.{Pass, Session, isNone, viewRange}
+use Rattle.definition.specs.MemoryInit.{Lists, matching, registerInitAction, registered, discarded, applyPlan}
+use Rattle.definition.specs.Attachments.{Attached, rangeIn, kindOf, discards, attach, attachAll, resolveTo, colorOf, resolvePart, depthStencilPart, slotPart, slotParts, attachments}
+use Rattle.definition.specs.declared.Range.{Range}
+use Rattle.definition.specs.declared.Slot.{Slot}
+use Rattle.definition.specs.declared.MemoryInitKind.{MemoryInitKind}
+use Rattle.definition.specs.declared.MemoryInitKind.the-variants.{ImplicitlyInitialized, NeedsInitializedMemory}
+use Rattle.laws.proofs.Tests.{by-order}
+use Rattle.laws.proofs.Lists.{attach-append}
+use Rattle.laws.proofs.Folds.{parts-turn}
+use Rattle.lists.proofs.Records.{records-length, past-more}
+use Rattle.records.specs.Lent.{decodeSurface, decodeAction}
+use Rattle.memory_init.specs.declared.Counts.{Counts}
+use Rattle.memory_init.specs.Lent.{held, initKind, Leaves, Spared}
+use Rattle.memory_init.proofs.Registration.{spared-none, spared-step, leaves-discards, leaves-actions, leaves-clears}
+use Rattle.course.proofs.Room.{Fit, actions-grow}
+use Rattle.attachments.specs.declared.Planned.{Planned}
+use Rattle.attachments.specs.Attached.{PlannedAs}
+use Rattle.attachments.proofs.Slots.{slot-some, slot-resolving}
+use Rattle.recording.specs.Recorded.{Lent, Fitting, Recorded}
+
+-- ── clears only grow
+
+register-clears : (r : Range) (k : Option MemoryInitKind) (l : Lists) → length (l .clears) ≤ length (registered r k l .clears)
+unfolding registerInitAction
+register-clears r none l = omega arith
+register-clears r (some ImplicitlyInitialized) l = omega arith
+register-clears r (some NeedsInitializedMemory) l = omega (arith, length-append (l .clears) (matching r (l .discards)))
+
+discard-clears : (r : Range) (b : Bool) (l : Lists) → length (l .clears) ≤ length (discarded r b l .clears)
+discard-clears r true l = omega arith
+discard-clears r false l = omega arith
+
+clears-grow : (xs : List Attached) (l : Lists) → length (l .clears) ≤ length (attachAll xs l .clears)
+clears-grow [] l = omega arith
+clears-grow (x ∷ xs) l =
+    omega (
+      arith,
+      register-clears (rangeIn x) (kindOf x) l,
+      discard-clears (rangeIn x) (discards x) (registered (rangeIn x) (kindOf x) l),
+      clears-grow xs (attach x l),
+    )
+
+-- ── recorded one after another
+
+recorded-actions : (xs : List Attached) (n r : Counts) (d d′ a a′ c c′ : List ℕ) → Recorded xs n r d d′ a a′ c c′ → n .actions ≤ r .actions
+recorded-actions xs n r d d′ a a′ c c′ g =
+    omega (
+      arith,
+      records-length 6 decodeAction (n .actions) a,
+      records-length 6 decodeAction (r .actions) a′,
+      ap (λ (q : Lists). length (q .actions)) (g .lists),
+      actions-grow xs (held n d a c),
+    )
+
+recorded-clears : (xs : List Attached) (n r : Counts) (d d′ a a′ c c′ : List ℕ) → Recorded xs n r d d′ a a′ c c′ → n .clears ≤ r .clears
+recorded-clears xs n r d d′ a a′ c c′ g =
+    omega (
+      arith,
+      records-length 3 decodeSurface (n .clears) c,
+      records-length 3 decodeSurface (r .clears) c′,
+      ap (λ (q : Lists). length (q .clears)) (g .lists),
+      clears-grow xs (held n d a c),
+    )
+
+pub recorded-none : (n : Counts) (d a c : List ℕ) → n .discards ≤ maxDiscards → Recorded [] n n d d a a c c
+recorded-none n d a c h = record { lists = refl; spared = spared-none n d a c; small = h }
+
+pub recorded-then : (xs ys : List Attached) (n m r : Counts) (d d₁ d′ a a₁ a′ c c₁ c′ : List ℕ) → Recorded xs n m d d₁ a a₁ c c₁ → Recorded ys m r d₁ d′ a₁ a′ c₁ c′
+    → Recorded (xs ++ ys) n r d d′ a a′ c c′
+recorded-then xs ys n m r d d₁ d′ a a₁ a′ c c₁ c′ g h = record {
+  lists = h .lists ∙ ap (attachAll ys) (g .lists) ∙ sym (attach-append xs ys (held n d a c));
+  spared = record {
+    discards = h .spared .discards ∙ g .spared .discards;
+    actions = h .spared .actions ∙ past-more 6 decodeAction (m .actions) (r .actions) a a₁ (recorded-actions ys m r d₁ d′ a₁ a′ c₁ c′ h) (g .spared .actions);
+    clears = h .spared .clears ∙ past-more 3 decodeSurface (m .clears) (r .clears) c c₁ (recorded-clears ys m r d₁ d′ a₁ a′ c₁ c′ h) (g .spared .clears);
+  };
+  small = h .small;
+}
+
+pub recorded-as : (xs ys : List Attached) (n r : Counts) (d d′ a a′ c c′ : List ℕ) → ys ≡ xs → Recorded xs n r d d′ a a′ c c′ → Recorded ys n r d d′ a a′ c c′
+recorded-as xs ys n r d d′ a a′ c c′ e = subst (λ q. Recorded q n r d d′ a a′ c c′) (sym e)
+
+-- An attachment that is planned so.
+pub recorded-attach : (p : Planned) (x : Attached) (n r : Counts) (d d′ a a′ c c′ : List ℕ) → PlannedAs p x → Lent n d a c
+    → Fit (applyPlan (p .range) (initKind (p .kind)) (p .discards) (held n d a c)) → Leaves (applyPlan (p .range) (initKind (p .kind)) (p .discards) (held n d a c)) n r d d′ a a′ c c′
+    → Recorded (x ∷ []) n r d d′ a a′ c c′
+recorded-attach p x n r d d′ a a′ c c′ e lent fit left =
+    let l = applyPlan (p .range) (initKind (p .kind)) (p .discards) (held n d a c) in
+    let same : l ≡ attach x (held n d a c) = λ i. applyPlan (e .range i) (e .kind i) (e .discards i) (held n d a c) in
+    let few : r .discards ≤ maxDiscards = omega (arith, leaves-discards l n r d d′ a a′ c c′ left, fit .discards) in
+    record {
+      lists = left .lists ∙ same;
+      spared = spared-step l n r d d d′ a a a′ c c c′ (spared-none n d a c) left (lent .held) few
+          (omega (arith, records-length 6 decodeAction (n .actions) a, leaves-actions l n r d d′ a a′ c c′ left, ap (λ (q : Lists). length (q .actions)) same, actions-grow (x ∷ []) (held n d a c)))
+          (omega (arith, records-length 3 decodeSurface (n .clears) c, leaves-clears l n r d d′ a a′ c c′ left, ap (λ (q : Lists). length (q .clears)) same, clears-grow (x ∷ []) (held n d a c)));
+      small = few;
+    }
+
+-- ── what fits
+
+pub fitting-left : (xs ys : List Attached) (l : Lists) → Fitting (xs ++ ys) l → Fitting xs l
+fitting-left xs ys l f us vs e = f us (vs ++ ys) (ap (λ q. q ++ ys) e ∙ append-assoc us vs ys)
+
+pub fitting-right : (xs ys : List Attached) (l : Lists) → Fitting (xs ++ ys) l → Fitting ys (attachAll xs l)
+fitting-right xs ys l f us vs e = subst Fit (attach-append xs us l) (f (xs ++ us) vs (ap (λ q. xs ++ q) e ∙ sym (append-assoc xs us vs)))
+
+pub fitting-as : (xs ys : List Attached) (l m : Lists) → ys ≡ xs → m ≡ l → Fitting xs l → Fitting ys m
+fitting-as xs ys l m e g f = subst (λ q. Fitting q m) (sym e) (subst (Fitting xs) (sym g) f)
+
+-- A planned attachment.
+pub fitting-planned : (p : Planned) (x : Attached) (xs : List Attached) (l : Lists) → PlannedAs p x → Fitting (x ∷ xs) l → Fit (applyPlan (p .range) (initKind (p .kind)) (p .discards) l)
+fitting-planned p x xs l e f = subst Fit (λ i. applyPlan (sym (e .range) i) (sym (e .kind) i) (sym (e .discards) i) l) (f (x ∷ []) xs refl)
+
+parts-suc : (S : Session) (p : Pass) (n : ℕ) → slotParts S p n ++ slotPart S (p .slot n) ≡ slotParts S p (suc n)
+unfolding slotParts
+parts-suc S p n = refl
+
+-- Fewer slots.
+parts-fit : (S : Session) (p : Pass) (l : Lists) (k n : ℕ) → k ≤ n → Fitting (slotParts S p n) l → Fitting (slotParts S p k) l
+parts-fit S p l k zero h f =
+    let e : k ≡ zero = omega arith in
+    fitting-as (slotParts S p zero) (slotParts S p k) l l (ap (slotParts S p) e) refl f
+parts-fit S p l k (suc n) h f =
+    by-order k n
+    (λ g. parts-fit S p l k n g (fitting-left (slotParts S p n) (slotPart S (p .slot n)) l (fitting-as (slotParts S p (suc n)) (slotParts S p n ++ slotPart S (p .slot n)) l l (parts-suc S p n) refl f)))
+    (λ g. let e : k ≡ suc n = omega arith in fitting-as (slotParts S p (suc n)) (slotParts S p k) l l (ap (slotParts S p) e) refl f)
+
+-- Slot k, after those before it.
+pub fitting-slot : (S : Session) (p : Pass) (l m : Lists) (k n : ℕ) (c : Slot) → k < n → Fitting (slotParts S p n) l → c ≡ p .slot k → m ≡ attachAll (slotParts S p k) l → Fitting (slotPart S c) m
+fitting-slot S p l m k n c h f e g =
+    fitting-as (slotPart S (p .slot k)) (slotPart S c) (attachAll (slotParts S p k) l) m (ap (slotPart S) e) g
+    (fitting-right (slotParts S p k) (slotPart S (p .slot k)) l (fitting-as (slotParts S p (k + 1)) (slotParts S p k ++ slotPart S (p .slot k)) l l (sym (parts-turn S p k)) refl (parts-fit S p l (k + 1) n (omega arith) f)))
+
+-- One slot further.
+pub recorded-slot : (S : Session) (p : Pass) (k : ℕ) (x : Slot) (n m r : Counts) (d d₁ d′ a a₁ a′ c c₁ c′ : List ℕ) → x ≡ p .slot k → Recorded (slotParts S p k) n m d d₁ a a₁ c c₁
+    → Recorded (slotPart S x) m r d₁ d′ a₁ a′ c₁ c′ → Recorded (slotParts S p (k + 1)) n r d d′ a a′ c c′
+recorded-slot S p k x n m r d d₁ d′ a a₁ a′ c c₁ c′ e g h =
+    recorded-as (slotParts S p k ++ slotPart S x) (slotParts S p (k + 1)) n r d d′ a a′ c c′ (parts-turn S p k ∙ ap (λ q. slotParts S p k ++ slotPart S q) (sym e))
+    (recorded-then (slotParts S p k) (slotPart S x) n m r d d₁ d′ a a₁ a′ c c₁ c′ g h)
+
+-- A slot's colour, and its resolve target after it.
+pub fitting-color : (S : Session) (c : Slot) (l : Lists) → isNone (c .view) ≡ false → Fitting (slotPart S c) l → Fitting (colorOf S c ∷ resolvePart S c) l
+fitting-color S c l e f = fitting-as (slotPart S c) (colorOf S c ∷ resolvePart S c) l l (sym (slot-some S c e)) refl f
+
+pub fitting-resolve : (S : Session) (c : Slot) (l m : Lists) → isNone (c .view) ≡ false → isNone (c .resolve) ≡ false → m ≡ attachAll (colorOf S c ∷ []) l → Fitting (slotPart S c) l
+    → Fitting (resolveTo (c .resolve) (viewRange (S .view (c .resolve))) ∷ []) m
+fitting-resolve S c l m e g h f =
+    let target = resolveTo (c .resolve) (viewRange (S .view (c .resolve))) in
+    fitting-as (target ∷ []) (target ∷ []) (attachAll (colorOf S c ∷ []) l) m refl h
+    (fitting-right (colorOf S c ∷ []) (target ∷ []) l (fitting-as (slotPart S c) (colorOf S c ∷ target ∷ []) l l (sym (slot-resolving S c e g)) refl f))
+
+-- ── a whole pass
+
+-- The lent lists keep their length, so they are long enough for what follows.
+pub lent-after : (xs : List Attached) (n r : Counts) (d d′ a a′ c c′ : List ℕ) → Lent n d a c → Recorded xs n r d d′ a a′ c c′ → length d′ ≡ length d → length a′ ≡ length a → length c′ ≡ length c
+    → Lent r d′ a′ c′
+lent-after xs n r d d′ a a′ c c′ lent g ld la lc = record {
+  held = g .small;
+  discards = omega (arith, lent .discards);
+  actions = omega (arith, lent .actions);
+  clears = omega (arith, lent .clears);
+}
+
+pub fitting-first : (S : Session) (p : Pass) (l : Lists) → Fitting (attachments S p) l → Fitting (depthStencilPart S p) l
+unfolding attachments
+fitting-first S p l f = fitting-left (depthStencilPart S p) (slotParts S p (p .colors)) l f
+
+pub fitting-slots : (S : Session) (p : Pass) (l m : Lists) (n : ℕ) → n ≡ p .colors → m ≡ attachAll (depthStencilPart S p) l → Fitting (attachments S p) l → Fitting (slotParts S p n) m
+unfolding attachments
+fitting-slots S p l m n e g f =
+    fitting-as (slotParts S p (p .colors)) (slotParts S p n) (attachAll (depthStencilPart S p) l) m (ap (slotParts S p) e) g (fitting-right (depthStencilPart S p) (slotParts S p (p .colors)) l f)
+
+pub recorded-all : (S : Session) (p : Pass) (slots : ℕ) (n m r : Counts) (d d₁ d′ a a₁ a′ c c₁ c′ : List ℕ) → slots ≡ p .colors → Recorded (depthStencilPart S p) n m d d₁ a a₁ c c₁
+    → Recorded (slotParts S p slots) m r d₁ d′ a₁ a′ c₁ c′ → Recorded (attachments S p) n r d d′ a a′ c c′
+unfolding attachments
+recorded-all S p slots n m r d d₁ d′ a a₁ a′ c c₁ c′ e g h =
+    recorded-as (depthStencilPart S p ++ slotParts S p slots) (attachments S p) n r d d′ a a′ c c′ (ap (λ (q : ℕ). depthStencilPart S p ++ slotParts S p q) (sym e))
+    (recorded-then (depthStencilPart S p) (slotParts S p slots) n m r d d₁ d′ a a₁ a′ c c₁ c′ g h)

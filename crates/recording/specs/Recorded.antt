@@ -1,0 +1,28 @@
+-- What recording attachments in lent lists asks and leaves.
+use Prim.Native.Nat.{ℕ, _≤_}
+use mathlib.Core.Path.{_≡_}
+use mathlib.Core.List.{List, _++_}
+use lib.ListN.{length}
+use Rattle.definition.specs.Sizes.{maxDiscards}
+use Rattle.definition.specs.MemoryInit.{Lists}
+use Rattle.definition.specs.Attachments.{Attached, attachAll}
+use Rattle.memory_init.specs.declared.Counts.{Counts}
+use Rattle.memory_init.specs.Lent.{held, Spared}
+use Rattle.course.proofs.Room.{Fit}
+
+-- The lent lists are long enough: 64 discards, 512 actions, 80 clears.
+pub record Lent (n : Counts) (d a c : List ℕ) : Type 0 where
+  pub held : n .discards ≤ maxDiscards
+  pub discards : 192 ≤ length d
+  pub actions : 3072 ≤ length a
+  pub clears : 240 ≤ length c
+
+-- There is room for what every first part of xs leaves, from the lists l.
+abbrev pub Fitting : List Attached → Lists → Type 0
+Fitting xs l = (ys zs : List Attached) → xs ≡ ys ++ zs → Fit (attachAll ys l)
+
+-- The attachments xs are recorded: the lists are the definition's, and numbers past them stay.
+pub record Recorded (xs : List Attached) (n r : Counts) (d d′ a a′ c c′ : List ℕ) : Type 0 where
+  pub lists : held r d′ a′ c′ ≡ attachAll xs (held n d a c)
+  pub spared : Spared r d d′ a a′ c c′
+  pub small : r .discards ≤ maxDiscards

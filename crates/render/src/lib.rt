@@ -1,0 +1,184 @@
+// The check of one pass: numbers 5 and 10 to 50, the reply, and what it leaves in the lent lists (RenderPassInfo).
+// It decides first and writes last: judging writes no lent list, and only an accepted pass is recorded.
+use attachments::DepthStencilPart;
+use attachments::depth_stencil_part;
+use colors::depth_stencil_step;
+use colors::slot_steps;
+use definition::Progress;
+use definition::Seen;
+use definition::Verdict;
+use descriptor::fill_arc_desc;
+use memory_init::Counts;
+use multiview::mask_verdict;
+use readable::pass_reads;
+use recording::add_attachments;
+use replies::Attachments;
+use replies::no_attachments;
+use replies::render_attachments;
+use room::room_verdict;
+use session::mask;
+use verdict::NOWHERE;
+use verdict::fine;
+use verdict::is_fine;
+use verdict::refused_at;
+use verdict::then;
+use views::none_seen;
+ghost use mathlib.Core.Path.{_≡_};
+ghost use mathlib.Core.Bool.{true};
+ghost use Prim.Native.Nat.{_≤_};
+ghost use Rattle.definition.specs.Session.{session};
+ghost use Rattle.definition.specs.Check.{check, viewSteps};
+ghost use Rattle.definition.specs.Verdict.{isFine};
+ghost use Rattle.definition.specs.Attachments.{depthStencilPart};
+ghost use Rattle.definition.specs.Attachments as At;
+ghost use Rattle.definition.specs.Pass.{newPass, roomVerdict};
+ghost use Rattle.memory_init.specs.Lent.{held};
+ghost use Rattle.attachments.specs.Attached.{PartOf};
+ghost use Rattle.recording.specs.Recorded.{Lent};
+ghost use Rattle.render.specs.Outcome.{refusedOutcome, acceptedOutcome, Accepted, Checked};
+
+// What a pass check replies. Of the list of clears, the first `clears` are returned.
+#[repr(C)]
+pub struct PassReply {
+    pub verdict: Verdict,
+    pub width: u32,
+    pub height: u32,
+    pub samples: u32,
+    pub is_depth_read_only: bool,
+    pub is_stencil_read_only: bool,
+    pub divergent: u32,
+    pub attachments: Attachments,
+    pub clears: usize,
+}
+
+// The reply, and how many entries each lent list then has.
+pub struct PassOutcome {
+    pub reply: PassReply,
+    pub counts: Counts,
+}
+
+// 30 to 48: the depth-stencil view, then each slot, then the mask.
+fn view_steps(s: &[u8], pass: u32) -> Progress
+    requires { ⌜ session (now s) .pass pass .colors ≤ 8 ⌝ }
+    ensures { λ r. ⌜ r ≡ viewSteps (session (now (s .entry))) (session (now (s .entry)) .pass pass) ⌝ }
+{
+    let n = session::colors(s, pass);
+    let walked = slot_steps(s, pass, depth_stencil_step(s, pass), n);
+    let judged = walked.verdict;
+    let seen = walked.seen;
+    Progress {
+        verdict: then(judged, mask_verdict(s, mask(s, pass), seen.layers)),
+        seen: seen,
+    }
+}
+
+// 5 and 10 to 48, and what the views have fixed.
+pub fn start(s: &[u8], pass: u32) -> Progress
+    ensures { λ r. ⌜ r ≡ check (session (now (s .entry))) (session (now (s .entry)) .pass pass) ⌝ }
+{
+    if !pass_reads(s, pass) {
+        return Progress {
+            verdict: refused_at(5, NOWHERE),
+            seen: none_seen(),
+        };
+    }
+    let ops = fill_arc_desc(s, pass);
+    if !is_fine(ops) {
+        return Progress {
+            verdict: ops,
+            seen: none_seen(),
+        };
+    }
+    view_steps(s, pass)
+}
+
+// A refused pass replies with no attachments or clears, and the lists keep their entries.
+fn refusal(v: Verdict, n: Counts) -> PassOutcome
+    ensures { λ r. ⌜ r ≡ refusedOutcome v n ⌝ }
+{
+    PassOutcome {
+        reply: PassReply {
+            verdict: v,
+            width: 0,
+            height: 0,
+            samples: 0,
+            is_depth_read_only: false,
+            is_stencil_read_only: false,
+            divergent: 0,
+            attachments: no_attachments(),
+            clears: 0,
+        },
+        counts: n,
+    }
+}
+
+// What an accepted pass replies, whose depth-stencil part is d: its divergent aspect is cleared after it.
+fn finish(s: &[u8], pass: u32, d: DepthStencilPart, seen: Seen, n: Counts) -> PassOutcome
+    requires { ⌜ PartOf (session (now s)) d (depthStencilPart (session (now s)) (session (now s) .pass pass)) × (session (now s) .pass pass .colors ≤ 8) ⌝ }
+    ensures { λ r. ⌜ r ≡ acceptedOutcome (session (now (s .entry))) (At.attachments (session (now (s .entry))) (session (now (s .entry)) .pass pass)) seen n ⌝ }
+{
+    let slots = session::colors(s, pass);
+    PassOutcome {
+        reply: PassReply {
+            verdict: fine(),
+            width: seen.width,
+            height: seen.height,
+            samples: seen.samples,
+            is_depth_read_only: d.is_depth_read_only,
+            is_stencil_read_only: d.is_stencil_read_only,
+            divergent: d.divergent,
+            attachments: render_attachments(s, pass, d, slots),
+            clears: n.clears,
+        },
+        counts: n,
+    }
+}
+
+// An accepted pass, whose depth-stencil part is d: it replaces the clears, and its attachments are recorded.
+fn accept(
+    s: &[u8],
+    pass: u32,
+    d: DepthStencilPart,
+    seen: Seen,
+    discards: &mut [u32],
+    actions: &mut [u32],
+    clears: &mut [u32],
+    n: Counts,
+) -> PassOutcome
+    requires { ⌜ PartOf (session (now s)) d (depthStencilPart (session (now s)) (session (now s) .pass pass)) × Lent n (now discards) (now actions) (now clears) × (session (now s) .pass pass .colors ≤ 8) × (isFine (roomVerdict (At.attachments (session (now s)) (session (now s) .pass pass)) (newPass (held n (now discards) (now actions) (now clears)))) ≡ true) ⌝ }
+    ensures { λ r. ⌜ Accepted (session (now (s .entry))) (At.attachments (session (now (s .entry))) (session (now (s .entry)) .pass pass)) seen n r (now (discards .entry)) (now (discards .exit)) (now (actions .entry)) (now (actions .exit)) (now (clears .entry)) (now (clears .exit)) ⌝ }
+{
+    let cleared = Counts {
+        discards: n.discards,
+        actions: n.actions,
+        clears: 0,
+    };
+    let after = add_attachments(s, pass, d, discards, actions, clears, cleared);
+    finish(s, pass, d, seen, after)
+}
+
+// One pass check. Judging writes nothing: 5 and 10 to 48 read the session, 49 and 50 follow a copy of the discards.
+pub fn check_pass(
+    s: &[u8],
+    pass: u32,
+    discards: &mut [u32],
+    actions: &mut [u32],
+    clears: &mut [u32],
+    n: Counts,
+) -> PassOutcome
+    requires { ⌜ Lent n (now discards) (now actions) (now clears) ⌝ }
+    ensures { λ r. ⌜ Checked (session (now (s .entry))) (session (now (s .entry)) .pass pass) n r (now (discards .entry)) (now (discards .exit)) (now (actions .entry)) (now (actions .exit)) (now (clears .entry)) (now (clears .exit)) ⌝ }
+{
+    let judged = start(s, pass);
+    let verdict = judged.verdict;
+    let seen = judged.seen;
+    if !is_fine(verdict) {
+        return refusal(verdict, n);
+    }
+    let d = depth_stencil_part(s, pass);
+    let room = room_verdict(s, pass, d, discards, n);
+    if !is_fine(room) {
+        return refusal(room, n);
+    }
+    accept(s, pass, d, seen, discards, actions, clears, n)
+}

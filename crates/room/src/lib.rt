@@ -1,0 +1,104 @@
+// Numbers 49 and 50: whether the lists have room for a pass, told before any lent list is written.
+// The discards' course through the attachments is followed on a copy.
+use attachments::DepthStencilPart;
+use attachments::Planned;
+use attachments::color_planned;
+use attachments::resolve_planned;
+use course::Course;
+use course::begin;
+use course::follow;
+use definition::Slot;
+use definition::Verdict;
+use memory_init::Counts;
+use session::colors;
+use session::is_none;
+use session::slot;
+use verdict::NOWHERE;
+use verdict::then;
+use verdict::unless;
+ghost use mathlib.Core.Path.{_≡_};
+ghost use mathlib.Core.List.{List, _∷_, []};
+ghost use Prim.Native.Nat.{ℕ, _≤_};
+ghost use lib.ListN.{length};
+ghost use Rattle.definition.specs.Sizes.{maxDiscards};
+ghost use Rattle.definition.specs.Session.{Session, session};
+ghost use Rattle.definition.specs.Attachments.{Attached, depthStencilPart, slotPart, slotParts, attachments};
+ghost use Rattle.definition.specs.Pass.{newPass, roomVerdict};
+ghost use Rattle.memory_init.specs.Lent.{held};
+ghost use Rattle.attachments.specs.Attached.{PlannedAs, PartOf};
+ghost use Rattle.room.specs.Going.{Goes};
+
+// The room of the list of actions.
+const MAX_ACTIONS: usize = 512;
+
+// An attachment after the course so far.
+fn follow_planned(copy: &mut [u32], course: Course, a: Planned) -> Course
+    requires { ⌜ (192 ≤ length (now copy)) × (course .held ≤ maxDiscards) ⌝ }
+    ensures { λ r. ⌜ ((x : Attached) → PlannedAs a x → Goes (x ∷ []) course (now (copy .entry)) r (now (copy .exit))) × (r .held ≤ maxDiscards) ⌝ }
+{
+    let range = a.range;
+    let kind = a.kind;
+    follow(copy, course, range, kind, a.discards)
+}
+
+// The depth-stencil attachment, if there is one.
+fn follow_depth_stencil(copy: &mut [u32], course: Course, d: DepthStencilPart) -> Course
+    requires { ⌜ (192 ≤ length (now copy)) × (course .held ≤ maxDiscards) ⌝ }
+    ensures { λ r. ⌜ ((S : Session) (xs : List Attached) → PartOf S d xs → Goes xs course (now (copy .entry)) r (now (copy .exit))) × (r .held ≤ maxDiscards) ⌝ }
+{
+    if !d.present {
+        return course;
+    }
+    let a = d.planned;
+    follow_planned(copy, course, a)
+}
+
+// A colour slot: its colour and its resolve target.
+fn follow_slot(s: &[u8], c: Slot, copy: &mut [u32], course: Course) -> Course
+    requires { ⌜ (192 ≤ length (now copy)) × (course .held ≤ maxDiscards) ⌝ }
+    ensures { λ r. ⌜ Goes (slotPart (session (now (s .entry))) c) course (now (copy .entry)) r (now (copy .exit)) ⌝ }
+{
+    if is_none(c.view) {
+        return course;
+    }
+    let colored = follow_planned(copy, course, color_planned(s, c));
+    if is_none(c.resolve) {
+        return colored;
+    }
+    follow_planned(copy, colored, resolve_planned(s, c.resolve))
+}
+
+// The first n slots.
+fn follow_slots(s: &[u8], pass: u32, n: u32, copy: &mut [u32], course: Course) -> Course
+    requires { ⌜ (192 ≤ length (now copy)) × (course .held ≤ maxDiscards) ⌝ }
+    ensures { λ r. ⌜ Goes (slotParts (session (now (s .entry))) (session (now (s .entry)) .pass pass) n) course (now (copy .entry)) r (now (copy .exit)) ⌝ }
+{
+    let mut after = course;
+    let mut k = 0u32;
+    while k < n {
+        after = follow_slot(s, slot(s, pass, k), copy, after);
+        k += 1;
+    }
+    after
+}
+
+// 49 if a step needs a 65th discard, then 50 if the end needs a 513th action. d is the pass's depth-stencil part.
+pub fn room_verdict(
+    s: &[u8],
+    pass: u32,
+    d: DepthStencilPart,
+    discards: &[u32],
+    n: Counts,
+) -> Verdict
+    requires { ⌜ PartOf (session (now s)) d (depthStencilPart (session (now s)) (session (now s) .pass pass)) × (192 ≤ length (now discards)) × (n .discards ≤ maxDiscards) ⌝ }
+    ensures { λ r. ⌜ ((a c : List ℕ) → r ≡ roomVerdict (attachments (session (now (s .entry))) (session (now (s .entry)) .pass pass)) (newPass (held n (now (discards .entry)) a c))) ⌝ }
+{
+    let mut copy = [0u32; 192];
+    let begun = begin(discards, n, &mut copy);
+    let first = follow_depth_stencil(&mut copy, begun, d);
+    let end = follow_slots(s, pass, colors(s, pass), &mut copy, first);
+    then(
+        unless(end.fits, 49, NOWHERE),
+        unless(end.actions <= MAX_ACTIONS, 50, NOWHERE),
+    )
+}

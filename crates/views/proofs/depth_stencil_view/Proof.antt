@@ -1,0 +1,20 @@
+-- What each call promises, put together as the definition puts it together.
+use Rattle.definition.specs.Views.{depthStencilView}
+use borrow.Author.Needs.{needs}
+use Rattle.views.proofs.depth_stencil_view.Statement.{statement}
+use Rattle.views.proofs.depth_stencil_view.Tie as tie
+
+returns : tie.Need-returns
+unfolding depthStencilView
+returns c =
+    simp (
+      c .then .ensures,
+      c .before .add-view .ensures,
+      c .before .before .check-multiview .ensures,
+      c .before .before .before .none-seen .ensures,
+    )
+
+pub depth-stencil-view-spec : {M : Type 1} → statement M
+depth-stencil-view-spec =
+    tie.close
+    (tie.spec (λ c κs. search needs) (λ c κs. search needs) (λ c κs. search needs) (λ c κs. search needs) returns)

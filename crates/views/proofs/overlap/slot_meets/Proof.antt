@@ -1,0 +1,60 @@
+-- A range meets what a slot takes where it meets the resolve target or the colour view.
+use mathlib.Core.Path.{sym, _∙_}
+use Rattle.definition.specs.Surfaces.{layersOf}
+use Rattle.laws.proofs.Overlap.{meets-nil, meets-append}
+use borrow.Author.Needs.{needs}
+use Rattle.views.proofs.overlap.slot_meets.Statement.{statement}
+use Rattle.views.proofs.overlap.slot_meets.Tie as tie
+
+returns : tie.Need-returns
+returns c = simp (sym (c .before .is-none .ensures) ∙ c .if1 .taken) (sym (meets-nil (layersOf (c .before .before .before .args .a))))
+
+returns-2 : tie.Need-returns-2
+returns-2 c =
+    let c4 = c .before .before .before .before in
+    let c5 = c4 .before in
+    let c6 = c5 .before in
+    simp (
+      c .before .before .layers-meet .ensures,
+      c .before .before .before .range-taken .ensures,
+      c4 .view .ensures,
+      sym (c6 .is-none .ensures) ∙ c5 .if1 .left,
+      sym (c .before .is-none2 .ensures) ∙ c .if2 .taken,
+    )
+
+returns-3 : tie.Need-returns-3
+returns-3 c =
+    let c4 = c .before .before .before .before in
+    let c5 = c4 .before in
+    let c6 = c5 .before in
+    let c7 = c6 .before in
+    let c8 = c7 .before in
+    let c9 = c8 .before in
+    let c11 = c9 .before .before in
+    simp (
+      c .layers-meet2 .ensures,
+      c .before .range-taken2 .ensures,
+      c .before .before .view2 .ensures,
+      c5 .layers-meet .ensures,
+      c6 .range-taken .ensures,
+      c7 .view .ensures,
+      sym (c9 .is-none .ensures) ∙ c8 .if1 .left,
+      sym (c4 .is-none2 .ensures) ∙ c .before .before .before .if2 .left,
+    )
+    (sym (meets-append (layersOf (c11 .args .a)) _ _))
+
+pub slot-meets-spec : {M : Type 1} → statement M
+slot-meets-spec =
+    tie.close
+    (tie.spec
+    (λ c κs. search needs)
+    returns
+    (λ c κs. search needs)
+    (λ c κs. search needs)
+    (λ c κs. search needs)
+    (λ c κs. search needs)
+    returns-2
+    (λ c κs. search needs)
+    (λ c κs. search needs)
+    (λ c κs. search needs)
+    returns-3)

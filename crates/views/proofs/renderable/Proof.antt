@@ -1,0 +1,26 @@
+-- What each call promises, put together as the definition puts it together.
+use Rattle.definition.specs.Views.{renderable}
+use borrow.Author.Needs.{needs}
+use Rattle.views.proofs.renderable.Statement.{statement}
+use Rattle.views.proofs.renderable.Tie as tie
+
+returns : tie.Need-returns
+unfolding renderable
+returns c =
+    let c4 = c .before .before .before .before in
+    simp (
+      c .before .is-d3 .ensures,
+      c .before .before .is-d2-array .ensures,
+      c .before .before .before .is-d2 .ensures,
+      c4 .render-attachment .ensures,
+    )
+
+pub renderable-spec : {M : Type 1} → statement M
+renderable-spec =
+    tie.close
+    (tie.spec
+    (λ c κs. search needs)
+    (λ c κs. search needs)
+    (λ c κs. search needs)
+    (λ c κs. search needs)
+    returns)
