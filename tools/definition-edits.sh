@@ -1,5 +1,5 @@
 #!/usr/bin/env bash
-# Edits of `definition` that the theorem must refuse: tools/definition-edits.sh [NAME..], all of them if none is named.
+# Edits of `definition` that the theorem must refuse: tools/definition-edits.sh [FOLDER/NAME..], all of them if none is named.
 # `rt must-fail` tries an edit on its own crate alone, so each edit of crates/noninterference/definition-edits is made on a copy of the three
 # crates, without the computed checks, and the fact that the edit names must fail there. EDIT_JOBS run at a time (default 2).
 # Last line: 'N passed, M failed'. What each check says stays in target/definition-edits.
@@ -11,7 +11,7 @@ logs=$PWD/target/definition-edits
 work=$(mktemp -d) || exit 2
 trap 'rm -rf "$work"' EXIT
 mkdir -p "$logs" || exit 2
-if [ $# -eq 0 ]; then set -- "$edits"/*.edit; else set -- "${@/#/$edits/}" && set -- "${@/%/.edit}"; fi
+if [ $# -eq 0 ]; then set -- "$edits"/*/*.edit; else set -- "${@/#/$edits/}" && set -- "${@/%/.edit}"; fi
 
 # The crates as every edit finds them: without must-fail edits, and without the files of computed checks.
 mkdir "$work/base" "$work/base/crates" || exit 2

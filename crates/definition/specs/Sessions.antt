@@ -1,7 +1,7 @@
 -- Whole sessions and what `deskcheck` prints of them, computed. The answers are document 01's, or worked out by hand as each comment shows.
 use Prim.Native.Nat.{ℕ}
 use mathlib.Core.Path.{_≡_, refl}
-use mathlib.Core.List.{List, [], _∷_, map}
+use mathlib.Core.List.{List, [], _∷_, _++_, map}
 use mathlib.Core.Bool.{Bool, true, false}
 use lib.ListN.{length, replicate}
 use Rattle.definition.specs.Sizes.{noView}
@@ -39,6 +39,11 @@ abbrev all : List (List ℕ) → List (List (List ℕ))
 all [] = []
 all (s ∷ rest) = deskcheck s ∷ all rest
 
+-- Each pass as the only one of a session, after the same header, textures and views: its line.
+abbrev alone : (List (List ℕ) → List ℕ) → List (List ℕ) → List (List ℕ)
+alone whole [] = []
+alone whole (p ∷ rest) = deskcheck (whole (p ∷ [])) ++ alone whole rest
+
 -- A colour texture of 4 × 4 pixels and one sample, and a view of the whole of a one-layer texture t.
 abbrev plain : List ℕ
 plain = texture 3 2 4 1 1 1 16
@@ -60,20 +65,20 @@ refused-sessions = refl
 
 -- Strict, at most four colours; texture 1 is transient. Load 7 is a 5; five slots a 10, empty or not; DontCare an 11 at slot 0; Clear with Store of the
 -- transient view in slot 1 a 12; Clear with Discard of it is accepted and listed.
-color-operations : deskcheck (file 4 0 1 (plain ∷ texture 3 2 4 1 1 1 48 ∷ []) (whole 0 ∷ view 1 2 1 1 48 0 ∷ [])
+color-operations : alone (file 4 0 1 (plain ∷ texture 3 2 4 1 1 1 48 ∷ []) (whole 0 ∷ view 1 2 1 1 48 0 ∷ []))
     (colors (slot 0 7 0 ∷ [])
     ∷ colors (emptySlot ∷ emptySlot ∷ emptySlot ∷ emptySlot ∷ emptySlot ∷ [])
     ∷ colors (slot 0 2 0 ∷ [])
     ∷ colors (emptySlot ∷ slot 1 1 0 ∷ [])
     ∷ colors (slot 1 1 1 ∷ [])
-    ∷ []))
-    ≡ (refused 0 5 17 17 0 ∷ refused 1 10 17 17 0 ∷ refused 2 11 0 17 0 ∷ refused 3 12 1 17 0 ∷ accepted 4 4 1 0 1 ∷ [])
+    ∷ [])
+    ≡ (refused 0 5 17 17 0 ∷ refused 0 10 17 17 0 ∷ refused 0 11 0 17 0 ∷ refused 0 12 1 17 0 ∷ accepted 0 4 1 0 1 ∷ [])
 unfolding computing
 color-operations = refl
 
 -- View 0 is of a colour format (13). View 1 is transient: depth Load with Discard (14), depth read-only without operations (15), stencil Clear with Store
 -- after a lawful depth (16), stencil read-only without operations (17). View 2: read-only depth with a load (18), with a store (19).
-transient-and-read-only : deskcheck (file 8 0 1 (plain ∷ texture 23 2 4 1 1 1 48 ∷ texture 23 2 4 1 1 1 16 ∷ []) (whole 0 ∷ view 1 2 1 1 48 0 ∷ whole 2 ∷ [])
+transient-and-read-only : alone (file 8 0 1 (plain ∷ texture 23 2 4 1 1 1 48 ∷ texture 23 2 4 1 1 1 16 ∷ []) (whole 0 ∷ view 1 2 1 1 48 0 ∷ whole 2 ∷ []))
     (depthStencil 0 absent absent
     ∷ depthStencil 1 (channel 0 1 0 0 0) absent
     ∷ depthStencil 1 (channel 3 2 1 0 0) absent
@@ -81,15 +86,15 @@ transient-and-read-only : deskcheck (file 8 0 1 (plain ∷ texture 23 2 4 1 1 1 
     ∷ depthStencil 1 (channel 1 1 0 1 0) (channel 3 2 1 0 0)
     ∷ depthStencil 2 (channel 0 2 1 0 0) absent
     ∷ depthStencil 2 (channel 3 0 1 0 0) absent
-    ∷ []))
-    ≡ (refused 0 13 16 17 0 ∷ refused 1 14 16 17 0 ∷ refused 2 15 16 17 0 ∷ refused 3 16 16 17 0 ∷ refused 4 17 16 17 0 ∷ refused 5 18 16 17 0
-    ∷ refused 6 19 16 17 0 ∷ [])
+    ∷ [])
+    ≡ (refused 0 13 16 17 0 ∷ refused 0 14 16 17 0 ∷ refused 0 15 16 17 0 ∷ refused 0 16 16 17 0 ∷ refused 0 17 16 17 0 ∷ refused 0 18 16 17 0
+    ∷ refused 0 19 16 17 0 ∷ [])
 unfolding computing
 transient-and-read-only = refl
 
 -- View 0 has both aspects: no depth load (20), Clear without a value (21), with NaN (22), DontCare (23), no store (24). View 1 is stencil8 with a depth
 -- load (25), view 2 depth24plus with a stencil store (26). Depth Load with Store, stencil Clear with Discard: accepted, and nothing is listed.
-channels : deskcheck (file 8 0 1 (texture 23 2 4 1 1 1 16 ∷ texture 20 2 4 1 1 1 16 ∷ texture 22 2 4 1 1 1 16 ∷ []) (whole 0 ∷ whole 1 ∷ whole 2 ∷ [])
+channels : alone (file 8 0 1 (texture 23 2 4 1 1 1 16 ∷ texture 20 2 4 1 1 1 16 ∷ texture 22 2 4 1 1 1 16 ∷ []) (whole 0 ∷ whole 1 ∷ whole 2 ∷ []))
     (depthStencil 0 absent absent
     ∷ depthStencil 0 (channel 1 0 0 0 0) absent
     ∷ depthStencil 0 (channel 1 0 0 1 0x7fc0_0000) absent
@@ -98,9 +103,9 @@ channels : deskcheck (file 8 0 1 (texture 23 2 4 1 1 1 16 ∷ texture 20 2 4 1 1
     ∷ depthStencil 1 (channel 0 2 0 0 0) absent
     ∷ depthStencil 2 (channel 0 0 0 0 0) (channel 3 0 0 0 0)
     ∷ depthStencil 0 (channel 0 0 0 0 0) (channel 1 1 0 1 257)
-    ∷ []))
-    ≡ (refused 0 20 16 17 0 ∷ refused 1 21 16 17 0 ∷ refused 2 22 16 17 0 ∷ refused 3 23 16 17 0 ∷ refused 4 24 16 17 0 ∷ refused 5 25 16 17 0
-    ∷ refused 6 26 16 17 0 ∷ accepted 7 4 1 0 0 ∷ [])
+    ∷ [])
+    ≡ (refused 0 20 16 17 0 ∷ refused 0 21 16 17 0 ∷ refused 0 22 16 17 0 ∷ refused 0 23 16 17 0 ∷ refused 0 24 16 17 0 ∷ refused 0 25 16 17 0
+    ∷ refused 0 26 16 17 0 ∷ accepted 0 4 1 0 0 ∷ [])
 unfolding computing
 channels = refl
 
@@ -124,37 +129,37 @@ multiview-passes = refl
 
 -- View 3 lacks usage 16 (34). Depth and view 0 are 8 × 8, view 1 is 4 × 4: 35 at slot 1 names slot 0, and at slot 0 the depth-stencil view. Four samples,
 -- then one: 36.
-sizes-and-samples : deskcheck (file 8 0 1
+sizes-and-samples : alone (file 8 0 1
     (texture 3 2 8 1 1 1 16 ∷ plain ∷ texture 3 2 8 1 1 4 16 ∷ texture 3 2 8 1 1 1 20 ∷ texture 22 2 8 1 1 1 16 ∷ [])
-    (whole 0 ∷ whole 1 ∷ whole 2 ∷ view 3 2 1 1 4 0 ∷ whole 4 ∷ [])
+    (whole 0 ∷ whole 1 ∷ whole 2 ∷ view 3 2 1 1 4 0 ∷ whole 4 ∷ []))
     (colors (slot 3 1 0 ∷ [])
     ∷ passOf 0 0 4 (channel 1 0 0 1 0) absent (slot 0 1 0 ∷ slot 1 1 0 ∷ [])
     ∷ passOf 0 0 4 (channel 1 0 0 1 0) absent (slot 1 1 0 ∷ [])
     ∷ colors (slot 2 1 0 ∷ slot 0 1 0 ∷ [])
-    ∷ []))
-    ≡ (refused 0 34 0 17 0 ∷ refused 1 35 1 0 0 ∷ refused 2 35 0 16 0 ∷ refused 3 36 1 0 0 ∷ [])
+    ∷ [])
+    ≡ (refused 0 34 0 17 0 ∷ refused 0 35 1 0 0 ∷ refused 0 35 0 16 0 ∷ refused 0 36 1 0 0 ∷ [])
 unfolding computing
 sizes-and-samples = refl
 
 -- A depth format in a colour slot (37). View 2 is 3D with four slices: no slice (39), slice 4 (38). A slice for a D2 view (40). The same view twice (41 at
 -- slot 1); two slices of one mip are apart.
-color-views : deskcheck (file 8 0 1 (plain ∷ texture 22 2 4 1 1 1 16 ∷ texture 3 3 4 4 1 1 16 ∷ []) (whole 0 ∷ whole 1 ∷ view 2 6 1 1 16 0 ∷ [])
+color-views : alone (file 8 0 1 (plain ∷ texture 22 2 4 1 1 1 16 ∷ texture 3 3 4 4 1 1 16 ∷ []) (whole 0 ∷ whole 1 ∷ view 2 6 1 1 16 0 ∷ []))
     (colors (slot 1 1 0 ∷ [])
     ∷ colors (slot 2 1 0 ∷ [])
     ∷ colors (sliceSlot 2 1 4 noView 1 0 ∷ [])
     ∷ colors (sliceSlot 0 1 0 noView 1 0 ∷ [])
     ∷ colors (slot 0 1 0 ∷ slot 0 1 0 ∷ [])
     ∷ colors (sliceSlot 2 1 0 noView 1 0 ∷ sliceSlot 2 1 1 noView 1 0 ∷ [])
-    ∷ []))
-    ≡ (refused 0 37 0 17 0 ∷ refused 1 39 0 17 0 ∷ refused 2 38 0 17 0 ∷ refused 3 40 0 17 0 ∷ refused 4 41 1 17 0 ∷ accepted 5 4 1 0 0 ∷ [])
+    ∷ [])
+    ≡ (refused 0 37 0 17 0 ∷ refused 0 39 0 17 0 ∷ refused 0 38 0 17 0 ∷ refused 0 40 0 17 0 ∷ refused 0 41 1 17 0 ∷ accepted 0 4 1 0 0 ∷ [])
 unfolding computing
 color-views = refl
 
 -- View 0 has four samples, the others one. Source of one sample (42), formats 3 and 5 (43), a target that is not resolvable (44), transient (45), 3D (48),
 -- the source itself (41 at place 8); and one that is accepted, with the source's samples.
-resolve-targets : deskcheck (file 8 0 1
+resolve-targets : alone (file 8 0 1
     (texture 3 2 4 1 1 4 16 ∷ plain ∷ texture 5 2 4 1 1 1 16 ∷ texture 3 3 4 4 1 1 16 ∷ texture 3 2 4 1 1 1 48 ∷ [])
-    (whole 0 ∷ view 1 2 1 1 16 1 ∷ view 2 2 1 1 16 1 ∷ view 3 6 1 1 16 1 ∷ view 4 2 1 1 48 1 ∷ whole 1 ∷ [])
+    (whole 0 ∷ view 1 2 1 1 16 1 ∷ view 2 2 1 1 16 1 ∷ view 3 6 1 1 16 1 ∷ view 4 2 1 1 48 1 ∷ whole 1 ∷ []))
     (colors (sliceSlot 2 0 0 1 1 0 ∷ [])
     ∷ colors (sliceSlot 0 0 0 2 1 0 ∷ [])
     ∷ colors (sliceSlot 0 0 0 5 1 0 ∷ [])
@@ -162,9 +167,9 @@ resolve-targets : deskcheck (file 8 0 1
     ∷ colors (sliceSlot 0 0 0 3 1 0 ∷ [])
     ∷ colors (sliceSlot 0 0 0 0 1 0 ∷ [])
     ∷ colors (sliceSlot 0 0 0 1 1 0 ∷ [])
-    ∷ []))
-    ≡ (refused 0 42 8 17 0 ∷ refused 1 43 8 17 0 ∷ refused 2 44 8 17 0 ∷ refused 3 45 8 17 0 ∷ refused 4 48 8 17 0 ∷ refused 5 41 8 17 0
-    ∷ accepted 6 4 4 0 0 ∷ [])
+    ∷ [])
+    ≡ (refused 0 42 8 17 0 ∷ refused 0 43 8 17 0 ∷ refused 0 44 8 17 0 ∷ refused 0 45 8 17 0 ∷ refused 0 48 8 17 0 ∷ refused 0 41 8 17 0
+    ∷ accepted 0 4 4 0 0 ∷ [])
 unfolding computing
 resolve-targets = refl
 

@@ -1,6 +1,6 @@
 -- Laws of what is said of "the first n": each definition one turn further, what stays once it is refused, and what holds of each.
 use mathlib.Core.Path.{_≡_, refl, sym, ap, subst, _∙_}
-use mathlib.Core.Bool.{Bool, true, false, not, _&&_, _||_, cond}
+use mathlib.Core.Bool.{Bool, true, false, _&&_, cond}
 use mathlib.Core.List.{List, [], _++_}
 use Prim.Native.Nat.{ℕ, zero, suc, _+_, _-_, _<_, _≤_}
 use native.Mathlib.Omega.{arith}
@@ -8,18 +8,14 @@ use native.Mathlib.Numerals.{add-one}
 use lib.Dec.{leb, eqb}
 use borrow.Author.Tests.{eqb-true, eqb-false, leb-true, leb-false}
 use lib.ListN.{length, drop, getD}
-use Rattle.definition.specs.Bytes.{bit}
-use Rattle.definition.specs.Surfaces.{layersFrom}
-use Rattle.definition.specs.Session.{Session, Pass, arrayLayers, surfacesIn, surfacesBefore, mipSurfaces, textureSurfaces}
-use Rattle.definition.specs.Verdict.{isFine, _then_}
-use Rattle.definition.specs.Readable.{textureRight, texturesRead, bitsBelow, viewRight, viewsRead, slotReads, slotsRead}
-use Rattle.definition.specs.Check.{slotOps, colorOps, slotTakes, takenBefore, slotStep, nextSlot, slotSteps}
+use Rattle.definition.specs.Session.{Session, Pass, surfacesIn, surfacesBefore}
+use Rattle.definition.specs.Verdict.{isFine}
+use Rattle.definition.specs.Readable.{textureRight, texturesRead, viewRight, viewsRead, slotReads, slotsRead}
+use Rattle.definition.specs.Check.{slotTakes, takenBefore, slotStep, nextSlot, slotSteps}
 use Rattle.definition.specs.Attachments.{slotPart, slotParts}
 use Rattle.definition.specs.Calls.{bytesRight}
-use Rattle.definition.specs.declared.Verdict.{Verdict}
 use Rattle.definition.specs.declared.Progress.{Progress}
 use Rattle.laws.proofs.Tests.{and-left, and-right}
-use Rattle.laws.proofs.Verdicts.{then-left, then-right, then-stop}
 use Rattle.laws.proofs.Lists.{drop-turn}
 
 -- ── any fold
@@ -48,22 +44,6 @@ module _ (f g : ℕ → Bool) (turn : (n : ℕ) → f (suc n) ≡ (f n && g n)) 
       go : (b : Bool) → eqb i n ≡ b → (f n ≡ true → i < n → g i ≡ true) → g i ≡ true
       go true e ih = ap g (eqb-true i n e) ∙ and-right (f n) (g n) both
       go false e ih = ih (and-left (f n) (g n) both) (omega (arith, eqb-false i n e))
-
--- A chain of verdicts: what refuses first is the answer, and where it is fine each verdict is.
-module _ (f g : ℕ → Verdict) (turn : (n : ℕ) → f (suc n) ≡ (f n then g n)) where
-  pub then-stops : (k n : ℕ) → k ≤ n → isFine (f k) ≡ false → f n ≡ f k
-  then-stops k n h e = stays (λ v. isFine v ≡ false) f (λ m z. turn m ∙ then-stop (f m) (g m) z) k n h e
-
-  pub then-each : (n : ℕ) → isFine (f n) ≡ true → (i : ℕ) → i < n → isFine (g i) ≡ true
-  then-each zero h i l = absurd (omega arith)
-  then-each (suc n) h i l = go (eqb i n) refl (λ a. then-each n a i)
-    where
-      both : isFine (f n then g n) ≡ true
-      both = ap isFine (sym (turn n)) ∙ h
-
-      go : (b : Bool) → eqb i n ≡ b → (isFine (f n) ≡ true → i < n → isFine (g i) ≡ true) → isFine (g i) ≡ true
-      go true e ih = ap (λ j. isFine (g j)) (eqb-true i n e) ∙ then-right (f n) (g n) both
-      go false e ih = ih (then-left (f n) (g n) both) (omega (arith, eqb-false i n e))
 
 -- ── the session's rows: 3 and 4
 
@@ -103,47 +83,14 @@ views-stop S = and-stops (viewsRead S) (λ n. viewRight S (S .view n)) (views-su
 pub views-each : (S : Session) (n : ℕ) → viewsRead S n ≡ true → (i : ℕ) → i < n → viewRight S (S .view i) ≡ true
 views-each S = and-each (viewsRead S) (λ n. viewRight S (S .view n)) (views-suc S)
 
-pub bits-none : (a b : ℕ) → bitsBelow a b 0 ≡ true
-unfolding bitsBelow
-bits-none a b = refl
-
-pub bits-turn : (a b n : ℕ) → bitsBelow a b (n + 1) ≡ (bitsBelow a b n && (not (bit a n) || bit b n))
-unfolding bitsBelow
-bits-turn a b n = rw add-one
-
 -- ── the slots of a pass
-
-pub slots-read-none : (S : Session) (p : Pass) → slotsRead S p 0 ≡ true
-unfolding slotsRead
-slots-read-none S p = refl
-
-pub slots-read-turn : (S : Session) (p : Pass) (n : ℕ) → slotsRead S p (n + 1) ≡ (slotsRead S p n && slotReads S (p .slot n))
-unfolding slotsRead
-slots-read-turn S p n = rw add-one
 
 slots-read-suc : (S : Session) (p : Pass) (n : ℕ) → slotsRead S p (suc n) ≡ (slotsRead S p n && slotReads S (p .slot n))
 unfolding slotsRead
 slots-read-suc S p n = refl
 
-pub slots-read-stop : (S : Session) (p : Pass) (k n : ℕ) → k ≤ n → slotsRead S p k ≡ false → slotsRead S p n ≡ false
-slots-read-stop S p = and-stops (slotsRead S p) (λ n. slotReads S (p .slot n)) (slots-read-suc S p)
-
 pub slots-read-each : (S : Session) (p : Pass) (n : ℕ) → slotsRead S p n ≡ true → (i : ℕ) → i < n → slotReads S (p .slot i) ≡ true
 slots-read-each S p = and-each (slotsRead S p) (λ n. slotReads S (p .slot n)) (slots-read-suc S p)
-
-pub color-ops-turn : (S : Session) (p : Pass) (n : ℕ) → colorOps S p (n + 1) ≡ (colorOps S p n then slotOps S (p .slot n) n)
-unfolding colorOps
-color-ops-turn S p n = rw add-one
-
-color-ops-suc : (S : Session) (p : Pass) (n : ℕ) → colorOps S p (suc n) ≡ (colorOps S p n then slotOps S (p .slot n) n)
-unfolding colorOps
-color-ops-suc S p n = refl
-
-pub color-ops-stop : (S : Session) (p : Pass) (k n : ℕ) → k ≤ n → isFine (colorOps S p k) ≡ false → colorOps S p n ≡ colorOps S p k
-color-ops-stop S p = then-stops (colorOps S p) (λ n. slotOps S (p .slot n) n) (color-ops-suc S p)
-
-pub color-ops-each : (S : Session) (p : Pass) (n : ℕ) → isFine (colorOps S p n) ≡ true → (i : ℕ) → i < n → isFine (slotOps S (p .slot i) i) ≡ true
-color-ops-each S p = then-each (colorOps S p) (λ n. slotOps S (p .slot n) n) (color-ops-suc S p)
 
 pub taken-none : (S : Session) (p : Pass) → takenBefore S p 0 ≡ []
 unfolding takenBefore
@@ -178,10 +125,6 @@ pub next-refused : (S : Session) (p : Pass) (k : ℕ) (a : Progress) → isFine 
 unfolding nextSlot
 next-refused S p k a h = ap (λ b. cond b (slotStep S p k (a .seen)) a) h
 
-pub steps-stop : (S : Session) (p : Pass) (a : Progress) (k n : ℕ) → k ≤ n → isFine (slotSteps S p a k .verdict) ≡ false → slotSteps S p a n ≡ slotSteps S p a k
-unfolding slotSteps
-steps-stop S p a = stays (λ b. isFine (b .verdict) ≡ false) (slotSteps S p a) (λ n. next-refused S p n (slotSteps S p a n))
-
 -- ── surfaces
 
 pub before-none : (S : Session) → surfacesBefore S 0 ≡ 0
@@ -201,13 +144,6 @@ before-grows S k (suc n) h = go (leb k n) refl (before-grows S k n)
     go : (b : Bool) → leb k n ≡ b → (k ≤ n → surfacesBefore S k ≤ surfacesBefore S n) → surfacesBefore S k ≤ surfacesBefore S (suc n)
     go true e ih = omega (arith, ih (leb-true k n e))
     go false e ih = let z : k ≡ suc n = omega (arith, leb-false k n e) in rw z (omega arith)
-
-pub mips-turn : (t count n : ℕ) → mipSurfaces t count (n + 1) ≡ mipSurfaces t count n ++ layersFrom t n 0 count
-mips-turn t count n = rw add-one
-
-pub texture-surfaces-turn : (S : Session) (n : ℕ)
-    → textureSurfaces S (n + 1) ≡ textureSurfaces S n ++ mipSurfaces n (arrayLayers (S .texture n)) (S .texture n .mips)
-texture-surfaces-turn S n = rw add-one
 
 -- ── the rest of a list
 

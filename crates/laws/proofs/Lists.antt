@@ -5,8 +5,8 @@ use mathlib.Core.List.{List, [], _∷_, _++_, map}
 use Prim.Native.Nat.{ℕ, suc, _+_, _<_, _≤_}
 use native.Mathlib.Omega.{arith}
 use native.Mathlib.Numerals.{add-one}
-use lib.ListN.{length, take, drop, getD}
-use lib.Seq.{take-suc, drop-cons}
+use lib.ListN.{length, drop, getD}
+use lib.Seq.{drop-cons}
 use Rattle.definition.specs.Surfaces.{hits}
 use Rattle.definition.specs.MemoryInit.{Lists, retain, matching, others}
 use Rattle.definition.specs.Attachments.{Attached, attach, attachAll}
@@ -14,10 +14,6 @@ use Rattle.definition.specs.declared.Surface.{Surface}
 use Rattle.definition.specs.declared.Range.{Range}
 
 -- ── one entry more
-
--- The first i + 1 entries, and the entries from i on.
-pub take-turn : {A : Type 0} (xs : List A) (o : A) (i : ℕ) → i < length xs → take (i + 1) xs ≡ take i xs ++ (getD xs i o ∷ [])
-take-turn xs o i h = ap (λ (q : ℕ). take q xs) (add-one i) ∙ take-suc xs i o h
 
 pub drop-turn : {A : Type 0} (xs : List A) (o : A) (i : ℕ) → i < length xs → drop i xs ≡ getD xs i o ∷ drop (i + 1) xs
 drop-turn xs o i h = drop-cons xs i o h ∙ ap (λ (q : ℕ). getD xs i o ∷ drop q xs) (sym (add-one i))

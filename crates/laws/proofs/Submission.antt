@@ -96,10 +96,6 @@ restart-by (suc (suc (suc n))) (suc zero) h = refl
 restart-by (suc (suc (suc n))) (suc (suc zero)) h = clash {b = true} refl h
 restart-by (suc (suc (suc n))) (suc (suc (suc m))) h = refl
 
-pub after-by : (a : List Action) (d : List Surface) (s : Surface) (b c : ℕ) → filled b ≡ filled c → byteAfter a d s b ≡ byteAfter a d s c
-unfolding byteAfter
-after-by a d s b c h = ap (λ x. cond (elem s d) (emptyByte (byteActs a s x)) (byteActs a s x)) (restart-by b c h)
-
 pub after-most : (a : List Action) (d : List Surface) (s : Surface) (b : ℕ) → byteAfter a d s b ≤ 3
 unfolding byteAfter
 after-most a d s b = go (elem s d)

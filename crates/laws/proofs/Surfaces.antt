@@ -95,20 +95,6 @@ hits-in r s h =
       layer-high = ltb-true _ _ (and-right (leb (r .layer) (s .layer)) _ l);
     }
 
-pub hits-on : (r : Range) (s : Surface) → InRange r s → hits r s ≡ true
-unfolding hits within
-hits-on r s h =
-    simp (
-      eq-eqb (s .texture) (r .texture) (h .texture),
-      le-leb (r .mip) (s .mip) (h .mip-low),
-      lt-ltb (s .mip) (r .mip + r .mips) (h .mip-high),
-      le-leb (r .layer) (s .layer) (h .layer-low),
-      lt-ltb (s .layer) (r .layer + r .layers) (h .layer-high),
-    )
-
-pub hits-off : (r : Range) (s : Surface) → (InRange r s → ⊥) → hits r s ≡ false
-hits-off r s h = bool-iff _ _ (λ e. absurd (h (hits-in r s e))) (λ e. clash {b = false} e refl)
-
 -- A range of one mip and one layer has its first surface alone; a surface's own range has that surface alone.
 pub hits-one : (r : Range) (s : Surface) → r .mips ≡ 1 → r .layers ≡ 1 → hits r s ≡ same s (firstOf r)
 unfolding hits same

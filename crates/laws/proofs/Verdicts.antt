@@ -3,7 +3,7 @@ use mathlib.Core.Path.{_≡_, refl, sym, ap, _∙_}
 use mathlib.Core.Bool.{Bool, true, false}
 use Prim.Native.Nat.{ℕ}
 use lib.Dec.{eqb}
-use Rattle.definition.specs.Verdict.{fine, isFine, refusedAt, _then_, unless, unlessAgainst}
+use Rattle.definition.specs.Verdict.{fine, isFine, refusedAt, _then_, unless}
 use Rattle.definition.specs.declared.Verdict.{Verdict}
 use Rattle.laws.proofs.Tests.{clash}
 
@@ -32,11 +32,6 @@ unfolding unless
 unless-on true n p z h = refl
 unless-on false n p z h = clash h z
 
-pub against-on : (b : Bool) (n p e : ℕ) → eqb n 0 ≡ false → isFine (unlessAgainst b n p e) ≡ true → b ≡ true
-unfolding unlessAgainst
-against-on true n p e z h = refl
-against-on false n p e z h = clash h z
-
 -- ── a chain at the first refusal
 
 pub then-stop : (v w : Verdict) → isFine v ≡ false → v then w ≡ v
@@ -61,11 +56,3 @@ unless-fine b n p h = rw h
 pub unless-refused : (b : Bool) (n p : ℕ) → b ≡ false → unless b n p ≡ refusedAt n p
 unfolding unless
 unless-refused b n p h = rw h
-
-pub against-fine : (b : Bool) (n p e : ℕ) → b ≡ true → unlessAgainst b n p e ≡ fine
-unfolding unlessAgainst
-against-fine b n p e h = rw h
-
-pub against-refused : (b : Bool) (n p e : ℕ) → b ≡ false → unlessAgainst b n p e ≡ record { number = n; place = p; earlier = e }
-unfolding unlessAgainst
-against-refused b n p e h = rw h
