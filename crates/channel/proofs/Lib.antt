@@ -1,3 +1,4 @@
+pub mod Kind
 pub mod Asked
 pub mod Resolve
 pub mod Bits

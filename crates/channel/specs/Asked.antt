@@ -1,8 +1,7 @@
 -- A channel as the code holds it: the value of a Clear apart from whether it is given.
-use Prim.Native.Nat.{ℕ}
 use mathlib.Core.Bool.{Bool, cond}
 use mathlib.Core.Option.{Option, none, some}
-use Rattle.definition.specs.Channel.{LoadOp, loadOp, clearOp, dontCare, clearValue, readOnlyOps, Resolved, channel, refused}
+use Rattle.definition.specs.Channel.{LoadOp, loadOp, clearOp, dontCare, clearValue, PassChannel}
 
 abbrev pub given : {X : Type 0} → Bool → X → Option X
 given b x = cond b (some x) none
@@ -16,13 +15,10 @@ abbrev pub askedField : {X : Type 0} → Bool → Option (LoadOp X) → Option (
 askedField b none = none
 askedField b (some l) = some (asked b l)
 
--- The clear value of a load that may be absent.
-abbrev pub askedClear : {X : Type 0} → Option (LoadOp (Option X)) → Option X
-askedClear none = none
-askedClear (some l) = clearValue none l
+-- The clear value of a load that may be absent, o where there is none.
+abbrev pub askedClear : {X : Type 0} → X → Option (LoadOp X) → X
+askedClear o none = o
+askedClear o (some l) = clearValue o l
 
--- A channel that may have no operation is read-only; n with a load, else m with a store.
-abbrev pub withoutOps : {X Y : Type 0} → Option (LoadOp X) → Option Bool → ℕ → ℕ → Resolved Y
-withoutOps (some l) store n m = refused n
-withoutOps none (some keep) n m = refused m
-withoutOps none none n m = channel readOnlyOps
+abbrev pub askedChannel : {X : Type 0} → Bool → Option (LoadOp X) → Option Bool → Bool → PassChannel (Option X)
+askedChannel b l store readOnly = record { load = askedField b l; store = store; readOnly = readOnly }

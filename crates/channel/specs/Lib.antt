@@ -1,4 +1,6 @@
 pub mod Store
+pub mod Kind
+pub mod Pass
 pub mod Asked
 pub mod Color
 pub mod Corners

@@ -3,13 +3,11 @@ use mathlib.Core.Option.{Option, none, some}
 use lib.Ieee.{Float}
 use Rattle.definition.specs.Channel.{LoadOp, loadOp, clearOp, dontCare, Ops, operational, readOnlyOps, PassChannel, Resolved, channel, refused}
 use Rattle.channel.specs.Store.{keepIn, storeIn}
-use Rattle.channel.specs.Asked.{askedField}
+use Rattle.channel.specs.Asked.{askedChannel}
 use Rattle.depth_channel.specs.declared.DepthLoadOp.{DepthLoadOp}
 use Rattle.depth_channel.specs.declared.DepthLoadOp.the-variants as DL
 use Rattle.depth_channel.specs.declared.DepthLoadField.{DepthLoadField}
 use Rattle.depth_channel.specs.declared.DepthLoadField.the-variants as DF
-use Rattle.depth_channel.specs.declared.DepthClear.{DepthClear}
-use Rattle.depth_channel.specs.declared.DepthClear.the-variants as DC
 use Rattle.depth_channel.specs.declared.DepthChannel.{DepthChannel}
 use Rattle.depth_channel.specs.declared.ResolvedDepth.{ResolvedDepth}
 use Rattle.depth_channel.specs.declared.ResolvedDepth.the-variants as DR
@@ -25,12 +23,8 @@ abbrev pub fieldIn : DepthLoadField → Option (LoadOp Float)
 fieldIn DF.Absent = none
 fieldIn (DF.Is l) = some (loadIn l)
 
-abbrev pub clearIn : DepthClear → Option Float
-clearIn DC.Absent = none
-clearIn (DC.Is x) = some x
-
 abbrev pub channelIn : DepthChannel → PassChannel (Option Float)
-channelIn c = record { load = askedField (c .given) (fieldIn (c .load)); store = storeIn (c .store); readOnly = c .readonly }
+channelIn c = askedChannel (c .given) (fieldIn (c .load)) (storeIn (c .store)) (c .readonly)
 
 abbrev pub opsIn : ResolvedDepth → Ops Float
 opsIn DR.ReadOnly = readOnlyOps

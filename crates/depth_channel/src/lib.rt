@@ -1,24 +1,30 @@
 // The depth channel: a Clear carries an f32, from 0.0 to 1.0.
+// What does not turn on the value is in `channel`; here the value is taken out, handled and put back.
 // Every function is total, and its contract is an equation with the definition, under the translations of specs/.
+use channel::LoadField;
+use channel::LoadKind;
+use channel::Operations;
 use channel::StoreField;
 use channel::StoreOp;
+use channel::pass::Answer;
+use channel::pass::Handled;
+use channel::pass::PassChannel;
 use channel::store_field;
-use channel::store_hal_ops;
-use channel::stores;
 use definition::Channel;
 use definition::Verdict;
 use verdict::AT_DEPTH_STENCIL;
 use verdict::fine;
 use verdict::refused_at;
-use verdict::unless;
 use wire::f32_of_bits;
 ghost use mathlib.Core.Path.{_≡_};
 ghost use Rattle.definition.specs.Bytes.{f32OfBits};
 ghost use Rattle.definition.specs.Channel as Ch;
 ghost use Rattle.definition.specs.Pass.{opsBits};
-ghost use Rattle.channel.specs.Store.{keepIn, storeIn};
-ghost use Rattle.channel.specs.Asked.{askedField, askedClear, withoutOps};
-ghost use Rattle.depth_channel.specs.Depth.{loadIn, fieldIn, clearIn, channelIn, opsIn, answerIn};
+ghost use Rattle.channel.specs.Store.{storeIn};
+ghost use Rattle.channel.specs.Kind.{kindIn, kindOf, kinds, ofKind, operationsIn, operationsOf, valuedHandled, valuedAnswer, resolvedFor};
+ghost use Rattle.channel.specs.Pass as Pa;
+ghost use Rattle.channel.specs.Asked.{given, askedField, askedClear};
+ghost use Rattle.depth_channel.specs.Depth.{loadIn, fieldIn, channelIn, opsIn, answerIn};
 
 // LoadOp<f32>.
 pub enum DepthLoadOp {
@@ -31,12 +37,6 @@ pub enum DepthLoadOp {
 pub enum DepthLoadField {
     Absent,
     Is(DepthLoadOp),
-}
-
-// A clear value that may be absent.
-pub enum DepthClear {
-    Absent,
-    Is(f32),
 }
 
 // PassChannel<Option<f32>>: what a pass asks of its depth. The value of a Clear counts where it is given.
@@ -67,65 +67,38 @@ pub enum DepthAnswer {
 
 // ── operations
 
+impl DepthLoadOp {
+    // The load without its value.
+    pub fn kind(self) -> LoadKind
+        ensures { λ r. ⌜ kindIn r ≡ kindOf (loadIn self) ⌝ }
+    {
+        match self {
+            DepthLoadOp::Load => LoadKind::Load,
+            DepthLoadOp::Clear(_) => LoadKind::Clear,
+            DepthLoadOp::DontCare => LoadKind::DontCare,
+        }
+    }
+}
+
+// The load of this kind, `clear` where it clears.
+fn of_kind(kind: LoadKind, clear: DepthLoadOp) -> DepthLoadOp
+    ensures { λ r. ⌜ loadIn r ≡ ofKind (loadIn clear) (kindIn kind) ⌝ }
+{
+    match kind {
+        LoadKind::Load => DepthLoadOp::Load,
+        LoadKind::Clear => clear,
+        LoadKind::DontCare => DepthLoadOp::DontCare,
+    }
+}
+
 // By the field's number: 0 Load, 1 Clear, 2 DontCare, 3 absent.
-pub fn load_field(n: u32, clear: f32) -> DepthLoadField
-    ensures { λ r. ⌜ fieldIn r ≡ Ch.loadField n clear ⌝ }
+fn load_field(n: u32, x: f32) -> DepthLoadField
+    ensures { λ r. ⌜ fieldIn r ≡ Ch.loadField n x ⌝ }
 {
-    if n >= 3 {
+    let LoadField::Is(kind) = channel::load_field(n) else {
         return DepthLoadField::Absent;
-    }
-    if n == 1 {
-        return DepthLoadField::Is(DepthLoadOp::Clear(clear));
-    }
-    if n == 2 {
-        DepthLoadField::Is(DepthLoadOp::DontCare)
-    } else {
-        DepthLoadField::Is(DepthLoadOp::Load)
-    }
-}
-
-// 1 Load, 2 Clear, 4 DontCare.
-pub fn load_hal_ops(load: DepthLoadOp) -> u32
-    ensures { λ r. ⌜ r ≡ Ch.loadBits (loadIn load) ⌝ }
-{
-    match load {
-        DepthLoadOp::Load => 1,
-        DepthLoadOp::Clear(_) => 2,
-        DepthLoadOp::DontCare => 4,
-    }
-}
-
-// Whether what is there is read.
-pub fn loads(load: DepthLoadOp) -> bool
-    ensures { λ r. ⌜ r ≡ Ch.loads (loadIn load) ⌝ }
-{
-    match load {
-        DepthLoadOp::Load => true,
-        DepthLoadOp::Clear(_) => false,
-        DepthLoadOp::DontCare => false,
-    }
-}
-
-// Whether any value may be there.
-pub fn ignores(load: DepthLoadOp) -> bool
-    ensures { λ r. ⌜ r ≡ Ch.ignores (loadIn load) ⌝ }
-{
-    match load {
-        DepthLoadOp::Load => false,
-        DepthLoadOp::Clear(_) => false,
-        DepthLoadOp::DontCare => true,
-    }
-}
-
-// Clear or DontCare, with Discard.
-pub fn check_transient_attachment_ops(load: DepthLoadOp, store: StoreOp) -> bool
-    ensures { λ r. ⌜ r ≡ Ch.transientOps (loadIn load) (keepIn store) ⌝ }
-{
-    match load {
-        DepthLoadOp::Load => false,
-        DepthLoadOp::Clear(_) => !stores(store),
-        DepthLoadOp::DontCare => !stores(store),
-    }
+    };
+    DepthLoadField::Is(of_kind(kind, DepthLoadOp::Clear(x)))
 }
 
 // ── a clear value
@@ -137,30 +110,18 @@ pub fn in_range(x: f32) -> bool
     (0.0 <= x) & (x <= 1.0)
 }
 
-// 24 without a store.
-fn with_store(load: DepthLoadOp, store: StoreField) -> DepthAnswer
-    ensures { λ r. ⌜ answerIn r ≡ Ch.withStore (loadIn load) (storeIn store) ⌝ }
-{
-    let StoreField::Is(op) = store else {
-        return DepthAnswer::Refused(24);
-    };
-    DepthAnswer::Channel(ResolvedDepth::Operational(DepthOps {
-        load: load,
-        store: op,
-    }))
-}
-
 // 21 without a clear value, 22 out of range.
-fn with_clear(clear: DepthClear, store: StoreField) -> DepthAnswer
-    ensures { λ r. ⌜ answerIn r ≡ Ch.withClear (Ch.handleDepth (clearIn clear)) (storeIn store) ⌝ }
+fn handle_clear(is_given: bool, x: f32) -> Handled
+    ensures { λ r. ⌜ valuedHandled x (Pa.handledIn r) ≡ Ch.handleDepth (given «is_given» x) ⌝ }
 {
-    let DepthClear::Is(x) = clear else {
-        return DepthAnswer::Refused(21);
-    };
-    if in_range(x) {
-        with_store(DepthLoadOp::Clear(x), store)
+    if is_given {
+        if in_range(x) {
+            Handled::Value
+        } else {
+            Handled::Refusal(22)
+        }
     } else {
-        DepthAnswer::Refused(22)
+        Handled::Refusal(21)
     }
 }
 
@@ -175,6 +136,24 @@ pub fn depth_channel(c: Channel) -> DepthChannel
         given: c.given == 1,
         store: store_field(c.store),
         readonly: c.readonly == 1,
+    }
+}
+
+// What a channel without a value answers, with this value.
+fn with_answer(answer: Answer, x: f32) -> DepthAnswer
+    ensures { λ r. ⌜ answerIn r ≡ valuedAnswer x (Pa.answerIn answer) ⌝ }
+{
+    match answer {
+        Answer::Refused(n) => DepthAnswer::Refused(n),
+        Answer::ReadOnly => DepthAnswer::Channel(ResolvedDepth::ReadOnly),
+        Answer::Operational(ops) => {
+            let load = ops.load;
+            let store = ops.store;
+            DepthAnswer::Channel(ResolvedDepth::Operational(DepthOps {
+                load: of_kind(load, DepthLoadOp::Clear(x)),
+                store: store,
+            }))
+        }
     }
 }
 
@@ -197,113 +176,56 @@ impl DepthChannel {
         self.readonly
     }
 
-    // The value of a Clear, if it is given.
-    pub fn clear_value(self) -> DepthClear
-        ensures { λ r. ⌜ clearIn r ≡ askedClear (channelIn self .load) ⌝ }
+    // The value of a Clear, zero where there is none.
+    pub fn clear_value(self) -> f32
+        ensures { λ r. ⌜ r ≡ askedClear (f32OfBits 0) (fieldIn (self .load)) ⌝ }
     {
         let load = self.load;
         let DepthLoadField::Is(op) = load else {
-            return DepthClear::Absent;
+            return 0.0;
         };
         match op {
-            DepthLoadOp::Load => DepthClear::Absent,
-            DepthLoadOp::Clear(x) => {
-                if self.given {
-                    DepthClear::Is(x)
-                } else {
-                    DepthClear::Absent
-                }
-            }
-            DepthLoadOp::DontCare => DepthClear::Absent,
+            DepthLoadOp::Load => 0.0,
+            DepthLoadOp::Clear(x) => x,
+            DepthLoadOp::DontCare => 0.0,
         }
     }
 
-    // Of a transient attachment: n where both operations are given and are not Clear or DontCare with Discard,
-    // m where one is absent and the channel is read-only.
-    pub fn check_transient(self, n: u32, m: u32) -> Verdict
-        ensures { λ r. ⌜ r ≡ Ch.transientChannel (channelIn self) n m ⌝ }
+    // The channel without the value.
+    pub fn asked(self) -> PassChannel
+        ensures { λ r. ⌜ Pa.passIn r ≡ kinds (channelIn self) ⌝ }
     {
-        let load = self.load;
-        let store = self.store;
-        let lasting = unless(!self.readonly, m, AT_DEPTH_STENCIL);
-        let DepthLoadField::Is(load_op) = load else {
-            return lasting;
+        let store = self.store();
+        let readonly = self.is_readonly();
+        let DepthLoadField::Is(op) = self.load() else {
+            return PassChannel {
+                load: LoadField::Absent,
+                store: store,
+                readonly: readonly,
+            };
         };
-        let StoreField::Is(store_op) = store else {
-            return lasting;
-        };
-        unless(
-            check_transient_attachment_ops(load_op, store_op),
-            n,
-            AT_DEPTH_STENCIL,
-        )
-    }
-
-    // Read-only, unless it has a load (n) or a store (m).
-    fn without_ops(self, n: u32, m: u32) -> DepthAnswer
-        ensures { λ r. ⌜ answerIn r ≡ withoutOps (channelIn self .load) (channelIn self .store) n m ⌝ }
-    {
-        let load = self.load;
-        let store = self.store;
-        let DepthLoadField::Absent = load else {
-            return DepthAnswer::Refused(n);
-        };
-        let StoreField::Absent = store else {
-            return DepthAnswer::Refused(m);
-        };
-        DepthAnswer::Channel(ResolvedDepth::ReadOnly)
-    }
-
-    // 20 without a load; a Clear's value is handled; 23 for a strict DontCare; 24 without a store.
-    fn resolve_ops(self, strict: bool) -> DepthAnswer
-        ensures { λ r. ⌜ answerIn r ≡ Ch.resolveOps Ch.handleDepth strict (channelIn self .load) (channelIn self .store) ⌝ }
-    {
-        let load = self.load;
-        let store = self.store;
-        let DepthLoadField::Is(op) = load else {
-            return DepthAnswer::Refused(20);
-        };
-        match op {
-            DepthLoadOp::Load => with_store(DepthLoadOp::Load, store),
-            DepthLoadOp::Clear(_) => with_clear(self.clear_value(), store),
-            DepthLoadOp::DontCare => {
-                if strict {
-                    return DepthAnswer::Refused(23);
-                }
-                with_store(DepthLoadOp::DontCare, store)
-            }
+        PassChannel {
+            load: LoadField::Is(op.kind()),
+            store: store,
+            readonly: readonly,
         }
     }
 
-    // 18 to 24. A read-only channel has no operations.
-    pub fn resolve(self, strict: bool) -> DepthAnswer
-        ensures { λ r. ⌜ answerIn r ≡ Ch.resolve Ch.handleDepth strict (channelIn self) ⌝ }
+    // Of an aspect that the format has or lacks: 18 to 24, or 25.
+    pub fn resolve(self, has: bool, strict: bool) -> DepthAnswer
+        ensures { λ r. ⌜ answerIn r ≡ resolvedFor Ch.handleDepth 25 has strict (channelIn self) ⌝ }
     {
-        if self.readonly {
-            self.without_ops(18, 19)
-        } else {
-            self.resolve_ops(strict)
-        }
-    }
-
-    // 25 with an operation: the format lacks the aspect.
-    pub fn resolve_absent(self) -> DepthAnswer
-        ensures { λ r. ⌜ answerIn r ≡ Ch.resolveAbsent (channelIn self) 25 ⌝ }
-    {
-        self.without_ops(25, 25)
+        let x = self.clear_value();
+        let handled = handle_clear(self.given, x);
+        with_answer(self.asked().resolve(has, 25, handled, strict), x)
     }
 }
 
-// Of an aspect that the format has or lacks: 18 to 24, or 25.
+// The same by the row's numbers.
 pub fn depth_resolved(has: bool, strict: bool, c: Channel) -> DepthAnswer
     ensures { λ r. ⌜ answerIn r ≡ Ch.depthResolved has strict c ⌝ }
 {
-    let channel = depth_channel(c);
-    if has {
-        channel.resolve(strict)
-    } else {
-        channel.resolve_absent()
-    }
+    depth_channel(c).resolve(has, strict)
 }
 
 impl DepthAnswer {
@@ -330,22 +252,29 @@ impl DepthAnswer {
 // ── a resolved channel
 
 impl ResolvedDepth {
-    pub fn load_op(self) -> DepthLoadOp
-        ensures { λ r. ⌜ loadIn r ≡ opsIn self .load ⌝ }
+    // The operations without the value: a read-only channel loads and stores.
+    pub fn operations(self) -> Operations
+        ensures { λ r. ⌜ operationsIn r ≡ operationsOf (opsIn self) ⌝ }
     {
         let ResolvedDepth::Operational(ops) = self else {
-            return DepthLoadOp::Load;
+            return Operations {
+                load: LoadKind::Load,
+                store: StoreOp::Store,
+            };
         };
-        ops.load
+        let load = ops.load;
+        let store = ops.store;
+        Operations {
+            load: load.kind(),
+            store: store,
+        }
     }
 
-    pub fn store_op(self) -> StoreOp
-        ensures { λ r. ⌜ keepIn r ≡ opsIn self .keep ⌝ }
+    // The bits of its operations.
+    pub fn hal_ops(self) -> u32
+        ensures { λ r. ⌜ r ≡ opsBits (opsIn self) ⌝ }
     {
-        let ResolvedDepth::Operational(ops) = self else {
-            return StoreOp::Store;
-        };
-        ops.store
+        self.operations().hal_ops()
     }
 
     pub fn is_readonly(self) -> bool
@@ -371,11 +300,5 @@ impl ResolvedDepth {
             DepthLoadOp::Clear(x) => x,
             DepthLoadOp::DontCare => 0.0,
         }
-    }
-
-    pub fn hal_ops(self) -> u32
-        ensures { λ r. ⌜ r ≡ opsBits (opsIn self) ⌝ }
-    {
-        load_hal_ops(self.load_op()) + store_hal_ops(self.store_op())
     }
 }

@@ -1,6 +1,8 @@
 // The operations that a pass asks for: numbers 10 to 26, in document 01's order (fill_arc_desc).
 // Every function is total, and its contract is an equation with the definition.
-use channel::color;
+use channel::check_transient_attachment_ops;
+use channel::ignores;
+use channel::load_kind;
 use channel::store_op;
 use definition::Channel;
 use definition::Slot;
@@ -39,11 +41,11 @@ fn slot_ops(s: &[u8], c: Slot, k: u32) -> Verdict
     if is_none(c.view) {
         return fine();
     }
-    let load = color::load_op(c.load, c.clear);
+    let load = load_kind(c.load);
     let store = store_op(c.store);
-    let cared = !(color::ignores(load) & strict(s));
+    let cared = !(ignores(load) & strict(s));
     let lasting = !transient(view(s, c.view));
-    let passing = color::check_transient_attachment_ops(load, store);
+    let passing = check_transient_attachment_ops(load, store);
     then(unless(cared, 11, k), unless(lasting | passing, 12, k))
 }
 
@@ -75,12 +77,12 @@ fn channel_ops(
     let aspects = unless(is_depth_stencil(format), 13, AT_DEPTH_STENCIL);
     let passing_depth = either(
         transient & has_depth,
-        depth_channel(depth).check_transient(14, 15),
+        depth_channel(depth).asked().check_transient(14, 15),
         fine(),
     );
     let passing_stencil = either(
         transient & has_stencil,
-        stencil_channel(stencil).check_transient(16, 17),
+        stencil_channel(stencil).asked().check_transient(16, 17),
         fine(),
     );
     let depth_ops = depth_resolved(has_depth, strict, depth).verdict();

@@ -1,6 +1,7 @@
 // Texture formats by document 01's numbers, their aspects, and mip sizes. Every number has an answer: a number that is no
 // format has no aspect, and a mip past the last has size 1.
 ghost use mathlib.Core.Path.{_≡_};
+ghost use Prim.Native.Nat.{_/_, _^_, _%_};
 ghost use Rattle.definition.specs.Formats.{isColor, isDepthStencil, isFormat, hasDepth, hasStencil, mipSize};
 
 // W3C "Plain color formats": 1 r8unorm to 14 rg11b10ufloat.
@@ -38,6 +39,13 @@ pub fn has_stencil(format: u32) -> bool
     (format == 20) | (format == 23) | (format == 25)
 }
 
+// The size divided by 2 to the mip, rounded down. Of a mip the low 5 bits count: a u32 has no more.
+fn quotient(size: u32, mip: u32) -> u32
+    ensures { λ r. ⌜ r ≡ size / 2 ^ (mip % 32) ⌝ }
+{
+    size >> (mip % 32)
+}
+
 // W3C "logical miplevel-specific texture extent": size divided by 2 to the mip, rounded down, at least 1.
 pub fn mip_size(size: u32, mip: u32) -> u32
     ensures { λ r. ⌜ r ≡ mipSize size mip ⌝ }
@@ -45,6 +53,6 @@ pub fn mip_size(size: u32, mip: u32) -> u32
     if mip >= 32 {
         return 1;
     }
-    let n = size >> mip;
+    let n = quotient(size, mip);
     if n < 1 { 1 } else { n }
 }

@@ -29,8 +29,7 @@ use session::texture_count;
 use session::view;
 use session::view_count;
 use session::view_start;
-use surfaces::surfaces_before;
-use wire::has_bit;
+use surfaces::surfaces_in;
 use wire::u32_at;
 ghost use mathlib.Core.Path.{_≡_};
 ghost use Prim.Native.Nat.{_+_};
@@ -68,9 +67,6 @@ const MAX_MIPS: u32 = 15;
 
 // The largest usage field.
 const MAX_USAGE: u32 = 63;
-
-// The bits of a usage field.
-const USAGE_BITS: u32 = 6;
 
 // The most surfaces of a session.
 const MAX_SURFACES: u64 = 4096;
@@ -134,45 +130,29 @@ fn texture_right(t: Texture) -> bool
         & (t.usage <= MAX_USAGE)
 }
 
-// Whether each of the first n texture rows can be read.
-fn textures_read(s: &[u8], n: u32) -> bool
-    ensures { λ r. ⌜ r ≡ Re.texturesRead (session (now (s .entry))) n ⌝ }
-{
-    let mut all = true;
-    let mut k = 0u32;
-    while k < n {
-        all = all & texture_right(texture(s, k));
-        k += 1;
-    }
-    all
-}
-
-// 3: every texture row, and the number of surfaces.
+// 3: every texture row, and the number of surfaces. A row is read once, for its tests and for its surfaces.
 fn textures_right(s: &[u8]) -> bool
     ensures { λ r. ⌜ r ≡ Re.texturesRight (session (now (s .entry))) ⌝ }
 {
     let n = texture_count(s);
-    textures_read(s, n) & (surfaces_before(s, n) <= MAX_SURFACES)
-}
-
-// Whether each of the first n bits of a is one of b.
-fn bits_below(a: u32, b: u32, n: u32) -> bool
-    ensures { λ r. ⌜ r ≡ Re.bitsBelow a b n ⌝ }
-{
-    let mut all = true;
+    let mut sum = 0u64;
     let mut k = 0u32;
     while k < n {
-        all = all & (!has_bit(a, k) | has_bit(b, k));
+        let t = texture(s, k);
+        if !texture_right(t) {
+            return false;
+        }
+        sum += surfaces_in(t);
         k += 1;
     }
-    all
+    sum <= MAX_SURFACES
 }
 
 // Whether the usage bits of a are among those of b.
 fn usage_among(a: u32, b: u32) -> bool
     ensures { λ r. ⌜ r ≡ Re.usageAmong a b ⌝ }
 {
-    (a <= MAX_USAGE) & bits_below(a, b, USAGE_BITS)
+    (a <= MAX_USAGE) & (a & b == a)
 }
 
 // Whether a view of dimension v goes with a texture of dimension t.
@@ -206,20 +186,24 @@ fn view_in_texture(t: Texture, v: View) -> bool
 fn view_right(s: &[u8], v: View) -> bool
     ensures { λ r. ⌜ r ≡ Re.viewRight (session (now (s .entry))) v ⌝ }
 {
-    (v.texture < texture_count(s)) & view_in_texture(texture(s, v.texture), v)
+    if v.texture >= texture_count(s) {
+        return false;
+    }
+    view_in_texture(texture(s, v.texture), v)
 }
 
 // 4: whether each of the first n view rows can be read.
 fn views_read(s: &[u8], n: u32) -> bool
     ensures { λ r. ⌜ r ≡ Re.viewsRead (session (now (s .entry))) n ⌝ }
 {
-    let mut all = true;
     let mut k = 0u32;
     while k < n {
-        all = all & view_right(s, view(s, k));
+        if !view_right(s, view(s, k)) {
+            return false;
+        }
         k += 1;
     }
-    all
+    true
 }
 
 // The session's refusal: 1 to 4, or 0 for none. A table is read only where the header is right, so the time is bounded.

@@ -7,6 +7,7 @@ use definition::Slot;
 use definition::Texture;
 use definition::View;
 use formats::mip_size;
+use wire::eight_at;
 use wire::f64_at;
 use wire::has_bit;
 use wire::u32_at;
@@ -178,16 +179,16 @@ pub fn pass_start(s: &[u8]) -> usize
 pub fn texture(s: &[u8], k: u32) -> Texture
     ensures { λ r. ⌜ r ≡ session (now (s .entry)) .texture k ⌝ }
 {
-    let at = HEADER_BYTES + TEXTURE_BYTES * (k as usize);
+    let row = eight_at(s, HEADER_BYTES + TEXTURE_BYTES * (k as usize));
     Texture {
-        format: u32_at(s, at),
-        dimension: u32_at(s, at + 4),
-        width: u32_at(s, at + 8),
-        height: u32_at(s, at + 12),
-        depth: u32_at(s, at + 16),
-        mips: u32_at(s, at + 20),
-        samples: u32_at(s, at + 24),
-        usage: u32_at(s, at + 28),
+        format: row.n0,
+        dimension: row.n1,
+        width: row.n2,
+        height: row.n3,
+        depth: row.n4,
+        mips: row.n5,
+        samples: row.n6,
+        usage: row.n7,
     }
 }
 
@@ -195,16 +196,16 @@ pub fn texture(s: &[u8], k: u32) -> Texture
 pub fn view(s: &[u8], k: u32) -> View
     ensures { λ r. ⌜ r ≡ session (now (s .entry)) .view k ⌝ }
 {
-    let at = view_start(s) + VIEW_BYTES * (k as usize);
+    let row = eight_at(s, view_start(s) + VIEW_BYTES * (k as usize));
     View {
-        texture: u32_at(s, at),
-        dimension: u32_at(s, at + 4),
-        mip: u32_at(s, at + 8),
-        mips: u32_at(s, at + 12),
-        layer: u32_at(s, at + 16),
-        layers: u32_at(s, at + 20),
-        usage: u32_at(s, at + 24),
-        resolvable: u32_at(s, at + 28),
+        texture: row.n0,
+        dimension: row.n1,
+        mip: row.n2,
+        mips: row.n3,
+        layer: row.n4,
+        layers: row.n5,
+        usage: row.n6,
+        resolvable: row.n7,
     }
 }
 
@@ -243,17 +244,17 @@ pub fn depth_stencil(s: &[u8], pass: u32) -> u32
     u32_at(s, pass_at(s, pass) + DEPTH_STENCIL)
 }
 
-// The channel that stands at a field of a pass row.
+// The channel that stands at a field of a pass row: the first five of eight numbers.
 fn channel_at(s: &[u8], pass: u32, field: u32) -> Channel
     ensures { λ r. ⌜ r ≡ Se.channelAt (now (s .entry)) (passRow (now (s .entry)) pass + field) ⌝ }
 {
-    let at = pass_at(s, pass) + (field as usize);
+    let row = eight_at(s, pass_at(s, pass) + (field as usize));
     Channel {
-        load: u32_at(s, at),
-        store: u32_at(s, at + 4),
-        readonly: u32_at(s, at + 8),
-        given: u32_at(s, at + 12),
-        clear: u32_at(s, at + 16),
+        load: row.n0,
+        store: row.n1,
+        readonly: row.n2,
+        given: row.n3,
+        clear: row.n4,
     }
 }
 
@@ -291,18 +292,18 @@ fn slot_clear(s: &[u8], pass: u32, k: u32) -> Color
     }
 }
 
-// Slot k of a pass row.
+// Slot k of a pass row: the first six of eight numbers, and the clear value.
 pub fn slot(s: &[u8], pass: u32, k: u32) -> Slot
     ensures { λ r. ⌜ r ≡ session (now (s .entry)) .pass pass .slot k ⌝ }
 {
-    let at = slot_at(s, pass, k);
+    let row = eight_at(s, slot_at(s, pass, k));
     Slot {
-        view: u32_at(s, at),
-        sliced: u32_at(s, at + 4),
-        slice: u32_at(s, at + 8),
-        resolve: u32_at(s, at + 12),
-        load: u32_at(s, at + 16),
-        store: u32_at(s, at + 20),
+        view: row.n0,
+        sliced: row.n1,
+        slice: row.n2,
+        resolve: row.n3,
+        load: row.n4,
+        store: row.n5,
         clear: slot_clear(s, pass, k),
     }
 }

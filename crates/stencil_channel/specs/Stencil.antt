@@ -3,13 +3,11 @@ use mathlib.Core.Option.{Option, none, some}
 use Prim.Native.Nat.{ℕ}
 use Rattle.definition.specs.Channel.{LoadOp, loadOp, clearOp, dontCare, Ops, operational, readOnlyOps, PassChannel, Resolved, channel, refused}
 use Rattle.channel.specs.Store.{keepIn, storeIn}
-use Rattle.channel.specs.Asked.{askedField}
+use Rattle.channel.specs.Asked.{askedChannel}
 use Rattle.stencil_channel.specs.declared.StencilLoadOp.{StencilLoadOp}
 use Rattle.stencil_channel.specs.declared.StencilLoadOp.the-variants as SL
 use Rattle.stencil_channel.specs.declared.StencilLoadField.{StencilLoadField}
 use Rattle.stencil_channel.specs.declared.StencilLoadField.the-variants as SF
-use Rattle.stencil_channel.specs.declared.StencilClear.{StencilClear}
-use Rattle.stencil_channel.specs.declared.StencilClear.the-variants as SC
 use Rattle.stencil_channel.specs.declared.StencilChannel.{StencilChannel}
 use Rattle.stencil_channel.specs.declared.ResolvedStencil.{ResolvedStencil}
 use Rattle.stencil_channel.specs.declared.ResolvedStencil.the-variants as SR
@@ -25,12 +23,8 @@ abbrev pub fieldIn : StencilLoadField → Option (LoadOp ℕ)
 fieldIn SF.Absent = none
 fieldIn (SF.Is l) = some (loadIn l)
 
-abbrev pub clearIn : StencilClear → Option ℕ
-clearIn SC.Absent = none
-clearIn (SC.Is x) = some x
-
 abbrev pub channelIn : StencilChannel → PassChannel (Option ℕ)
-channelIn c = record { load = askedField (c .given) (fieldIn (c .load)); store = storeIn (c .store); readOnly = c .readonly }
+channelIn c = askedChannel (c .given) (fieldIn (c .load)) (storeIn (c .store)) (c .readonly)
 
 abbrev pub opsIn : ResolvedStencil → Ops ℕ
 opsIn SR.ReadOnly = readOnlyOps

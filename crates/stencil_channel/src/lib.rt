@@ -1,23 +1,29 @@
 // The stencil channel: a Clear carries a u32, of which the low 8 bits count.
+// What does not turn on the value is in `channel`; here the value is taken out, handled and put back.
 // Every function is total, and its contract is an equation with the definition, under the translations of specs/.
+use channel::LoadField;
+use channel::LoadKind;
+use channel::Operations;
 use channel::StoreField;
 use channel::StoreOp;
+use channel::pass::Answer;
+use channel::pass::Handled;
+use channel::pass::PassChannel;
 use channel::store_field;
-use channel::store_hal_ops;
-use channel::stores;
 use definition::Channel;
 use definition::Verdict;
 use verdict::AT_DEPTH_STENCIL;
 use verdict::fine;
 use verdict::refused_at;
-use verdict::unless;
 ghost use mathlib.Core.Path.{_≡_};
 ghost use mathlib.Core.Option.{some};
 ghost use Rattle.definition.specs.Channel as Ch;
 ghost use Rattle.definition.specs.Pass.{opsBits};
-ghost use Rattle.channel.specs.Store.{keepIn, storeIn};
-ghost use Rattle.channel.specs.Asked.{askedField, askedClear, withoutOps};
-ghost use Rattle.stencil_channel.specs.Stencil.{loadIn, fieldIn, clearIn, channelIn, opsIn, answerIn};
+ghost use Rattle.channel.specs.Store.{storeIn};
+ghost use Rattle.channel.specs.Kind.{kindIn, kindOf, kinds, ofKind, operationsIn, operationsOf, valuedAnswer, resolvedFor};
+ghost use Rattle.channel.specs.Pass as Pa;
+ghost use Rattle.channel.specs.Asked.{given, askedField, askedClear};
+ghost use Rattle.stencil_channel.specs.Stencil.{loadIn, fieldIn, channelIn, opsIn, answerIn};
 
 // LoadOp<u32>.
 pub enum StencilLoadOp {
@@ -30,12 +36,6 @@ pub enum StencilLoadOp {
 pub enum StencilLoadField {
     Absent,
     Is(StencilLoadOp),
-}
-
-// A clear value that may be absent.
-pub enum StencilClear {
-    Absent,
-    Is(u32),
 }
 
 // PassChannel<Option<u32>>: what a pass asks of its stencil. The value of a Clear counts where it is given.
@@ -66,65 +66,38 @@ pub enum StencilAnswer {
 
 // ── operations
 
+impl StencilLoadOp {
+    // The load without its value.
+    pub fn kind(self) -> LoadKind
+        ensures { λ r. ⌜ kindIn r ≡ kindOf (loadIn self) ⌝ }
+    {
+        match self {
+            StencilLoadOp::Load => LoadKind::Load,
+            StencilLoadOp::Clear(_) => LoadKind::Clear,
+            StencilLoadOp::DontCare => LoadKind::DontCare,
+        }
+    }
+}
+
+// The load of this kind, `clear` where it clears.
+fn of_kind(kind: LoadKind, clear: StencilLoadOp) -> StencilLoadOp
+    ensures { λ r. ⌜ loadIn r ≡ ofKind (loadIn clear) (kindIn kind) ⌝ }
+{
+    match kind {
+        LoadKind::Load => StencilLoadOp::Load,
+        LoadKind::Clear => clear,
+        LoadKind::DontCare => StencilLoadOp::DontCare,
+    }
+}
+
 // By the field's number: 0 Load, 1 Clear, 2 DontCare, 3 absent.
-pub fn load_field(n: u32, clear: u32) -> StencilLoadField
-    ensures { λ r. ⌜ fieldIn r ≡ Ch.loadField n clear ⌝ }
+fn load_field(n: u32, x: u32) -> StencilLoadField
+    ensures { λ r. ⌜ fieldIn r ≡ Ch.loadField n x ⌝ }
 {
-    if n >= 3 {
+    let LoadField::Is(kind) = channel::load_field(n) else {
         return StencilLoadField::Absent;
-    }
-    if n == 1 {
-        return StencilLoadField::Is(StencilLoadOp::Clear(clear));
-    }
-    if n == 2 {
-        StencilLoadField::Is(StencilLoadOp::DontCare)
-    } else {
-        StencilLoadField::Is(StencilLoadOp::Load)
-    }
-}
-
-// 1 Load, 2 Clear, 4 DontCare.
-pub fn load_hal_ops(load: StencilLoadOp) -> u32
-    ensures { λ r. ⌜ r ≡ Ch.loadBits (loadIn load) ⌝ }
-{
-    match load {
-        StencilLoadOp::Load => 1,
-        StencilLoadOp::Clear(_) => 2,
-        StencilLoadOp::DontCare => 4,
-    }
-}
-
-// Whether what is there is read.
-pub fn loads(load: StencilLoadOp) -> bool
-    ensures { λ r. ⌜ r ≡ Ch.loads (loadIn load) ⌝ }
-{
-    match load {
-        StencilLoadOp::Load => true,
-        StencilLoadOp::Clear(_) => false,
-        StencilLoadOp::DontCare => false,
-    }
-}
-
-// Whether any value may be there.
-pub fn ignores(load: StencilLoadOp) -> bool
-    ensures { λ r. ⌜ r ≡ Ch.ignores (loadIn load) ⌝ }
-{
-    match load {
-        StencilLoadOp::Load => false,
-        StencilLoadOp::Clear(_) => false,
-        StencilLoadOp::DontCare => true,
-    }
-}
-
-// Clear or DontCare, with Discard.
-pub fn check_transient_attachment_ops(load: StencilLoadOp, store: StoreOp) -> bool
-    ensures { λ r. ⌜ r ≡ Ch.transientOps (loadIn load) (keepIn store) ⌝ }
-{
-    match load {
-        StencilLoadOp::Load => false,
-        StencilLoadOp::Clear(_) => !stores(store),
-        StencilLoadOp::DontCare => !stores(store),
-    }
+    };
+    StencilLoadField::Is(of_kind(kind, StencilLoadOp::Clear(x)))
 }
 
 // ── a clear value
@@ -136,27 +109,15 @@ pub fn convert_stencil_value(value: u32) -> u32
     value % 256
 }
 
-// 24 without a store.
-fn with_store(load: StencilLoadOp, store: StoreField) -> StencilAnswer
-    ensures { λ r. ⌜ answerIn r ≡ Ch.withStore (loadIn load) (storeIn store) ⌝ }
-{
-    let StoreField::Is(op) = store else {
-        return StencilAnswer::Refused(24);
-    };
-    StencilAnswer::Channel(ResolvedStencil::Operational(StencilOps {
-        load: load,
-        store: op,
-    }))
-}
-
 // A clear value that is absent is 0.
-fn with_clear(clear: StencilClear, store: StoreField) -> StencilAnswer
-    ensures { λ r. ⌜ answerIn r ≡ Ch.withClear (Ch.handleStencil (clearIn clear)) (storeIn store) ⌝ }
+fn handle_clear(is_given: bool, x: u32) -> u32
+    ensures { λ r. ⌜ Ch.value r ≡ Ch.handleStencil (given «is_given» x) ⌝ }
 {
-    let StencilClear::Is(n) = clear else {
-        return with_store(StencilLoadOp::Clear(0), store);
-    };
-    with_store(StencilLoadOp::Clear(convert_stencil_value(n)), store)
+    if is_given {
+        convert_stencil_value(x)
+    } else {
+        0
+    }
 }
 
 // ── a channel as a pass gives it
@@ -170,6 +131,24 @@ pub fn stencil_channel(c: Channel) -> StencilChannel
         given: c.given == 1,
         store: store_field(c.store),
         readonly: c.readonly == 1,
+    }
+}
+
+// What a channel without a value answers, with this value.
+fn with_answer(answer: Answer, x: u32) -> StencilAnswer
+    ensures { λ r. ⌜ answerIn r ≡ valuedAnswer x (Pa.answerIn answer) ⌝ }
+{
+    match answer {
+        Answer::Refused(n) => StencilAnswer::Refused(n),
+        Answer::ReadOnly => StencilAnswer::Channel(ResolvedStencil::ReadOnly),
+        Answer::Operational(ops) => {
+            let load = ops.load;
+            let store = ops.store;
+            StencilAnswer::Channel(ResolvedStencil::Operational(StencilOps {
+                load: of_kind(load, StencilLoadOp::Clear(x)),
+                store: store,
+            }))
+        }
     }
 }
 
@@ -192,113 +171,55 @@ impl StencilChannel {
         self.readonly
     }
 
-    // The value of a Clear, if it is given.
-    pub fn clear_value(self) -> StencilClear
-        ensures { λ r. ⌜ clearIn r ≡ askedClear (channelIn self .load) ⌝ }
+    // The value of a Clear, zero where there is none.
+    pub fn clear_value(self) -> u32
+        ensures { λ r. ⌜ r ≡ askedClear 0 (fieldIn (self .load)) ⌝ }
     {
         let load = self.load;
         let StencilLoadField::Is(op) = load else {
-            return StencilClear::Absent;
+            return 0;
         };
         match op {
-            StencilLoadOp::Load => StencilClear::Absent,
-            StencilLoadOp::Clear(x) => {
-                if self.given {
-                    StencilClear::Is(x)
-                } else {
-                    StencilClear::Absent
-                }
-            }
-            StencilLoadOp::DontCare => StencilClear::Absent,
+            StencilLoadOp::Load => 0,
+            StencilLoadOp::Clear(x) => x,
+            StencilLoadOp::DontCare => 0,
         }
     }
 
-    // Of a transient attachment: n where both operations are given and are not Clear or DontCare with Discard,
-    // m where one is absent and the channel is read-only.
-    pub fn check_transient(self, n: u32, m: u32) -> Verdict
-        ensures { λ r. ⌜ r ≡ Ch.transientChannel (channelIn self) n m ⌝ }
+    // The channel without the value.
+    pub fn asked(self) -> PassChannel
+        ensures { λ r. ⌜ Pa.passIn r ≡ kinds (channelIn self) ⌝ }
     {
-        let load = self.load;
-        let store = self.store;
-        let lasting = unless(!self.readonly, m, AT_DEPTH_STENCIL);
-        let StencilLoadField::Is(load_op) = load else {
-            return lasting;
+        let store = self.store();
+        let readonly = self.is_readonly();
+        let StencilLoadField::Is(op) = self.load() else {
+            return PassChannel {
+                load: LoadField::Absent,
+                store: store,
+                readonly: readonly,
+            };
         };
-        let StoreField::Is(store_op) = store else {
-            return lasting;
-        };
-        unless(
-            check_transient_attachment_ops(load_op, store_op),
-            n,
-            AT_DEPTH_STENCIL,
-        )
-    }
-
-    // Read-only, unless it has a load (n) or a store (m).
-    fn without_ops(self, n: u32, m: u32) -> StencilAnswer
-        ensures { λ r. ⌜ answerIn r ≡ withoutOps (channelIn self .load) (channelIn self .store) n m ⌝ }
-    {
-        let load = self.load;
-        let store = self.store;
-        let StencilLoadField::Absent = load else {
-            return StencilAnswer::Refused(n);
-        };
-        let StoreField::Absent = store else {
-            return StencilAnswer::Refused(m);
-        };
-        StencilAnswer::Channel(ResolvedStencil::ReadOnly)
-    }
-
-    // 20 without a load; a Clear's value is handled; 23 for a strict DontCare; 24 without a store.
-    fn resolve_ops(self, strict: bool) -> StencilAnswer
-        ensures { λ r. ⌜ answerIn r ≡ Ch.resolveOps Ch.handleStencil strict (channelIn self .load) (channelIn self .store) ⌝ }
-    {
-        let load = self.load;
-        let store = self.store;
-        let StencilLoadField::Is(op) = load else {
-            return StencilAnswer::Refused(20);
-        };
-        match op {
-            StencilLoadOp::Load => with_store(StencilLoadOp::Load, store),
-            StencilLoadOp::Clear(_) => with_clear(self.clear_value(), store),
-            StencilLoadOp::DontCare => {
-                if strict {
-                    return StencilAnswer::Refused(23);
-                }
-                with_store(StencilLoadOp::DontCare, store)
-            }
+        PassChannel {
+            load: LoadField::Is(op.kind()),
+            store: store,
+            readonly: readonly,
         }
     }
 
-    // 18 to 24. A read-only channel has no operations.
-    pub fn resolve(self, strict: bool) -> StencilAnswer
-        ensures { λ r. ⌜ answerIn r ≡ Ch.resolve Ch.handleStencil strict (channelIn self) ⌝ }
+    // Of an aspect that the format has or lacks: 18 to 24, or 26.
+    pub fn resolve(self, has: bool, strict: bool) -> StencilAnswer
+        ensures { λ r. ⌜ answerIn r ≡ resolvedFor Ch.handleStencil 26 has strict (channelIn self) ⌝ }
     {
-        if self.readonly {
-            self.without_ops(18, 19)
-        } else {
-            self.resolve_ops(strict)
-        }
-    }
-
-    // 26 with an operation: the format lacks the aspect.
-    pub fn resolve_absent(self) -> StencilAnswer
-        ensures { λ r. ⌜ answerIn r ≡ Ch.resolveAbsent (channelIn self) 26 ⌝ }
-    {
-        self.without_ops(26, 26)
+        let x = handle_clear(self.given, self.clear_value());
+        with_answer(self.asked().resolve(has, 26, Handled::Value, strict), x)
     }
 }
 
-// Of an aspect that the format has or lacks: 18 to 24, or 26.
+// The same by the row's numbers.
 pub fn stencil_resolved(has: bool, strict: bool, c: Channel) -> StencilAnswer
     ensures { λ r. ⌜ answerIn r ≡ Ch.stencilResolved has strict c ⌝ }
 {
-    let channel = stencil_channel(c);
-    if has {
-        channel.resolve(strict)
-    } else {
-        channel.resolve_absent()
-    }
+    stencil_channel(c).resolve(has, strict)
 }
 
 impl StencilAnswer {
@@ -325,22 +246,29 @@ impl StencilAnswer {
 // ── a resolved channel
 
 impl ResolvedStencil {
-    pub fn load_op(self) -> StencilLoadOp
-        ensures { λ r. ⌜ loadIn r ≡ opsIn self .load ⌝ }
+    // The operations without the value: a read-only channel loads and stores.
+    pub fn operations(self) -> Operations
+        ensures { λ r. ⌜ operationsIn r ≡ operationsOf (opsIn self) ⌝ }
     {
         let ResolvedStencil::Operational(ops) = self else {
-            return StencilLoadOp::Load;
+            return Operations {
+                load: LoadKind::Load,
+                store: StoreOp::Store,
+            };
         };
-        ops.load
+        let load = ops.load;
+        let store = ops.store;
+        Operations {
+            load: load.kind(),
+            store: store,
+        }
     }
 
-    pub fn store_op(self) -> StoreOp
-        ensures { λ r. ⌜ keepIn r ≡ opsIn self .keep ⌝ }
+    // The bits of its operations.
+    pub fn hal_ops(self) -> u32
+        ensures { λ r. ⌜ r ≡ opsBits (opsIn self) ⌝ }
     {
-        let ResolvedStencil::Operational(ops) = self else {
-            return StoreOp::Store;
-        };
-        ops.store
+        self.operations().hal_ops()
     }
 
     pub fn is_readonly(self) -> bool
@@ -366,11 +294,5 @@ impl ResolvedStencil {
             StencilLoadOp::Clear(x) => x,
             StencilLoadOp::DontCare => 0,
         }
-    }
-
-    pub fn hal_ops(self) -> u32
-        ensures { λ r. ⌜ r ≡ opsBits (opsIn self) ⌝ }
-    {
-        load_hal_ops(self.load_op()) + store_hal_ops(self.store_op())
     }
 }

@@ -5,6 +5,8 @@ use Prim.Native.Nat.{ℕ, _+_, _*_, _≤_}
 use native.Mathlib.Omega.{arith}
 use lib.ListN.{length, getD, List·getD-eq-default}
 use Rattle.definition.specs.Bytes.{u32At}
+use Rattle.wire.specs.declared.Eight.{Eight}
+use Rattle.wire.specs.Reading.{eightAt}
 
 -- The four places are given by equations, so that whoever cites the law need not write them as the definition does.
 pub four : (s : List ℕ) (at i j k l a b c d : ℕ) → a ≡ getD s i 0 → b ≡ getD s j 0 → c ≡ getD s k 0 → d ≡ getD s l 0
@@ -21,3 +23,15 @@ no-number s at h =
     four s at at (at + 1) (at + 2) (at + 3) 0 0 0 0
     (no-byte s at h) (no-byte s (at + 1) (omega arith)) (no-byte s (at + 2) (omega arith)) (no-byte s (at + 3) (omega arith))
     (omega arith) (omega arith) (omega arith) (omega arith)
+
+pub no-eight : (s : List ℕ) (at : ℕ) → length s ≤ at → record { n0 = 0; n1 = 0; n2 = 0; n3 = 0; n4 = 0; n5 = 0; n6 = 0; n7 = 0 } ≡ eightAt s at
+no-eight s at h = λ i. record {
+  n0 = no-number s at h i;
+  n1 = no-number s (at + 4) (omega arith) i;
+  n2 = no-number s (at + 8) (omega arith) i;
+  n3 = no-number s (at + 12) (omega arith) i;
+  n4 = no-number s (at + 16) (omega arith) i;
+  n5 = no-number s (at + 20) (omega arith) i;
+  n6 = no-number s (at + 24) (omega arith) i;
+  n7 = no-number s (at + 28) (omega arith) i;
+}

@@ -5,7 +5,20 @@ ghost use Prim.Native.Nat.{_+_, _≤_, _<_};
 ghost use lib.ListN.{length, getD};
 ghost use lib.Ieee.{binary32, binary64, toBits};
 ghost use Rattle.definition.specs.Bytes.{u32At, f32OfBits, f64OfBits, f64At, bit};
+ghost use Rattle.wire.specs.Reading.{eightAt};
 ghost use Rattle.wire.specs.Writing.{putBytes, putNumber};
+
+// Eight u32 that stand in a row.
+pub struct Eight {
+    pub n0: u32,
+    pub n1: u32,
+    pub n2: u32,
+    pub n3: u32,
+    pub n4: u32,
+    pub n5: u32,
+    pub n6: u32,
+    pub n7: u32,
+}
 
 // A byte as a u32.
 fn wide(b: u8) -> u32
@@ -35,6 +48,14 @@ fn u32_across_end(s: &[u8], at: usize) -> u32
     byte(s, at, 0) + 256 * byte(s, at, 1) + 65536 * byte(s, at, 2) + 16777216 * byte(s, at, 3)
 }
 
+// Four bytes that lie inside, the lowest first.
+fn u32_inside(s: &[u8], at: usize) -> u32
+    requires { ⌜ at + 4 ≤ length (now s) ⌝ }
+    ensures { λ r. ⌜ r ≡ u32At (now (s .entry)) at ⌝ }
+{
+    wide(s[at]) + 256 * wide(s[at + 1]) + 65536 * wide(s[at + 2]) + 16777216 * wide(s[at + 3])
+}
+
 // Four bytes, the lowest first. One test of the length serves all four where they lie inside.
 pub fn u32_at(s: &[u8], at: usize) -> u32
     ensures { λ r. ⌜ r ≡ u32At (now (s .entry)) at ⌝ }
@@ -42,13 +63,69 @@ pub fn u32_at(s: &[u8], at: usize) -> u32
     let n = s.len();
     if n >= 4 {
         if at <= n - 4 {
-            return wide(s[at])
-                + 256 * wide(s[at + 1])
-                + 65536 * wide(s[at + 2])
-                + 16777216 * wide(s[at + 3]);
+            return u32_inside(s, at);
         }
     }
     u32_across_end(s, at)
+}
+
+// Eight u32, each tested by itself.
+fn eight_across_end(s: &[u8], at: usize) -> Eight
+    ensures { λ r. ⌜ r ≡ eightAt (now (s .entry)) at ⌝ }
+{
+    if at >= s.len() {
+        return Eight {
+            n0: 0,
+            n1: 0,
+            n2: 0,
+            n3: 0,
+            n4: 0,
+            n5: 0,
+            n6: 0,
+            n7: 0,
+        };
+    }
+    Eight {
+        n0: u32_at(s, at),
+        n1: u32_at(s, at + 4),
+        n2: u32_at(s, at + 8),
+        n3: u32_at(s, at + 12),
+        n4: u32_at(s, at + 16),
+        n5: u32_at(s, at + 20),
+        n6: u32_at(s, at + 24),
+        n7: u32_at(s, at + 28),
+    }
+}
+
+// Eight u32 that lie inside.
+fn eight_inside(s: &[u8], at: usize) -> Eight
+    requires { ⌜ at + 32 ≤ length (now s) ⌝ }
+    ensures { λ r. ⌜ r ≡ eightAt (now (s .entry)) at ⌝ }
+{
+    Eight {
+        n0: u32_inside(s, at),
+        n1: u32_inside(s, at + 4),
+        n2: u32_inside(s, at + 8),
+        n3: u32_inside(s, at + 12),
+        n4: u32_inside(s, at + 16),
+        n5: u32_inside(s, at + 20),
+        n6: u32_inside(s, at + 24),
+        n7: u32_inside(s, at + 28),
+    }
+}
+
+// Eight u32 in a row. One test of the length serves all of them where they lie inside.
+pub fn eight_at(s: &[u8], at: usize) -> Eight
+    ensures { λ r. ⌜ r ≡ eightAt (now (s .entry)) at ⌝ }
+{
+    let n = s.len();
+    if n < 32 {
+        return eight_across_end(s, at);
+    }
+    if at > n - 32 {
+        return eight_across_end(s, at);
+    }
+    eight_inside(s, at)
 }
 
 // Whether bit k of n is set.

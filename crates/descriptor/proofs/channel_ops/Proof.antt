@@ -1,5 +1,9 @@
 -- What each call promises, put together as the definition puts it together.
+use Rattle.definition.specs.Channel.{depthChannel, stencilChannel}
 use Rattle.definition.specs.Check.{channelOps}
+use Rattle.channel.proofs.Resolve.{transient-of}
+use Rattle.depth_channel.specs.Depth as De
+use Rattle.stencil_channel.specs.Stencil as St
 use borrow.Author.Needs.{needs}
 use Rattle.descriptor.proofs.channel_ops.Statement.{statement}
 use Rattle.descriptor.proofs.channel_ops.Tie as tie
@@ -23,12 +27,17 @@ returns c =
     let c17 = c16 .before in
     let c18 = c17 .before in
     let c19 = c18 .before in
-    simp (c .then4 .ensures, c .before .then3 .ensures, c .before .before .then2 .ensures, c .before .before .before .then .ensures, c4 .verdict2 .ensures, c5 .stencil-resolved .ensures, c6 .verdict .ensures, c7 .depth-resolved .ensures, c8 .either2 .ensures, c9 .fine2 .ensures, c10 .check-transient2 .ensures, c11 .stencil-channel .ensures, c12 .either .ensures, c13 .fine .ensures, c14 .check-transient .ensures, c15 .depth-channel .ensures, c16 .unless .ensures, c17 .is-depth-stencil .ensures, c18 .has-stencil .ensures, c19 .has-depth .ensures)
+    let c20 = c19 .before in
+    let c21 = c20 .before in
+    let a = c21 .before .args in
+    simp (c .then4 .ensures, c .before .then3 .ensures, c .before .before .then2 .ensures, c .before .before .before .then .ensures, c4 .verdict2 .ensures, c5 .stencil-resolved .ensures, c6 .verdict .ensures, c7 .depth-resolved .ensures, c8 .either2 .ensures, c9 .fine2 .ensures, transient-of (St.channelIn (c12 .stencil-channel .result)) (stencilChannel (a .stencil)) 16 17 (c12 .stencil-channel .ensures) (c11 .asked2 .ensures) (c10 .check-transient2 .ensures), c13 .either .ensures, c14 .fine .ensures, transient-of (De.channelIn (c17 .depth-channel .result)) (depthChannel (a .depth)) 14 15 (c17 .depth-channel .ensures) (c16 .asked .ensures) (c15 .check-transient .ensures), c18 .unless .ensures, c19 .is-depth-stencil .ensures, c20 .has-stencil .ensures, c21 .has-depth .ensures)
 
 pub channel-ops-spec : {M : Type 1} → statement M
 channel-ops-spec =
     tie.close
     (tie.spec
+    (λ c κs. search needs)
+    (λ c κs. search needs)
     (λ c κs. search needs)
     (λ c κs. search needs)
     (λ c κs. search needs)

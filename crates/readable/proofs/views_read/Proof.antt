@@ -1,30 +1,42 @@
--- The invariant: the first k view rows are judged.
-use mathlib.Core.Path.{_≡_, refl, sym}
+-- The invariant: each of the first k view rows can be read. One that cannot be read decides the answer.
+use mathlib.Core.Path.{_≡_, sym, _∙_}
+use mathlib.Core.Bool.{true}
 use native.Mathlib.Omega.{arith}
-use Prim.Native.Nat.{_≤_, _-_}
-use native.Mathlib.Numerals.{add-one}
+use Prim.Native.Nat.{_+_, _≤_, _-_}
+use borrow.Author.Tests.{not-true, not-false}
 use borrow.Author.Needs.{needs}
-use Rattle.definition.specs.Readable.{viewsRead}
 use Rattle.definition.specs.Session.{session}
+use Rattle.definition.specs.Readable.{viewsRead}
+use Rattle.laws.proofs.Tests.{and-on, and-off-right}
+use Rattle.laws.proofs.Folds.{views-none, views-turn, views-stop}
 use Rattle.readable.proofs.views_read.Statement.{statement}
 use Rattle.readable.proofs.views_read.Tie as tie
 
 abbrev Inv-loop : tie.InvT-loop
-Inv-loop s n all₀ k₀ all k = (all ≡ viewsRead (session s) k) × (k ≤ n)
+Inv-loop s n k₀ k = (viewsRead (session s) k ≡ true) × (k ≤ n)
 
 abbrev μ-loop : tie.MeasureT-loop
-μ-loop s n all₀ k₀ all k = n - k
+μ-loop s n k₀ k = n - k
 
 loop-holds : tie.Need-loop-holds Inv-loop μ-loop
-unfolding viewsRead
-loop-holds c = (refl, omega arith)
-
-loop-again : tie.Need-loop-again Inv-loop μ-loop
-unfolding viewsRead
-loop-again c = (rw add-one (simp (c .view-right .ensures, c .before .view .ensures, c .before .before .before .loop .inv .0)), omega arith)
+loop-holds c = (views-none _, omega arith)
 
 returns : tie.Need-returns Inv-loop μ-loop
 returns c =
+    let judged = c .before in
+    let at = judged .before .before .before in
+    let refused = simp (judged .before .view .ensures) at (sym (judged .view-right .ensures) ∙ not-true _ (c .if1 .taken)) in
+    sym (views-stop _ (at .loop .k + 1) _ (omega arith) (views-turn _ (at .loop .k) ∙ and-off-right (viewsRead _ (at .loop .k)) _ refused))
+
+loop-again : tie.Need-loop-again Inv-loop μ-loop
+loop-again c =
+    let judged = c .before in
+    let at = judged .before .before .before in
+    let right = simp (judged .before .view .ensures) at (sym (judged .view-right .ensures) ∙ not-false _ (c .if1 .left)) in
+    (views-turn _ (at .loop .k) ∙ and-on _ _ (at .loop .inv .0) right, omega arith)
+
+returns-2 : tie.Need-returns-2 Inv-loop μ-loop
+returns-2 c =
     let e : c .before .loop .k ≡ c .before .before .before .args .n = omega arith in
     simp (sym e, c .before .loop .inv .0)
 
@@ -37,7 +49,8 @@ views-read-spec =
     loop-holds
     (λ c κs. search needs)
     (λ c κs. search needs)
+    returns
     (λ c. omega arith)
     (λ c. omega arith)
     loop-again
-    returns)
+    returns-2)

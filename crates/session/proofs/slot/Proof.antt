@@ -7,28 +7,8 @@ use Rattle.session.proofs.slot.Tie as tie
 returns : tie.Need-returns
 unfolding session
 returns c =
-    let c4 = c .before .before .before .before in
-    let c4 = c4 in
-    let c5 = c4 .before in
-    let c6 = c5 .before in
-    let c7 = c6 .before in
-    simp (c .slot-clear .ensures, c .before .u32-at6 .ensures, c .before .before .u32-at5 .ensures, c .before .before .before .u32-at4 .ensures, c4 .u32-at3 .ensures, c5 .u32-at2 .ensures, c6 .u32-at .ensures, c7 .slot-at .ensures .0)
+    let row = c .before in
+    simp (c .slot-clear .ensures, row .eight-at .ensures, row .before .slot-at .ensures .0)
 
 pub slot-spec : {M : Type 1} → statement M
-slot-spec =
-    tie.close
-    (tie.spec
-    (λ c κs. search needs)
-    (λ c κs. search needs)
-    (λ c. search needs)
-    (λ c κs. search needs)
-    (λ c. search needs)
-    (λ c κs. search needs)
-    (λ c. search needs)
-    (λ c κs. search needs)
-    (λ c. search needs)
-    (λ c κs. search needs)
-    (λ c. search needs)
-    (λ c κs. search needs)
-    (λ c κs. search needs)
-    returns)
+slot-spec = tie.close (tie.spec (λ c κs. search needs) (λ c κs. search needs) (λ c κs. search needs) returns)

@@ -6,14 +6,7 @@ use Rattle.session.proofs.view.Tie as tie
 
 returns : tie.Need-returns
 unfolding session
-returns c =
-    let c4 = c .before .before .before .before in
-    let c4 = c4 in
-    let c5 = c4 .before in
-    let c6 = c5 .before in
-    let c7 = c6 .before in
-    let c8 = c7 .before in
-    simp (c .u32-at8 .ensures, c .before .u32-at7 .ensures, c .before .before .u32-at6 .ensures, c .before .before .before .u32-at5 .ensures, c4 .u32-at4 .ensures, c5 .u32-at3 .ensures, c6 .u32-at2 .ensures, c7 .u32-at .ensures, c8 .view-start .ensures .0)
+returns c = simp (c .eight-at .ensures, c .before .view-start .ensures .0)
 
 pub view-spec : {M : Type 1} → statement M
 view-spec =
@@ -21,20 +14,6 @@ view-spec =
     (tie.spec
     (λ c κs. search needs)
     (λ c. search needs)
-    (λ c. search needs)
-    (λ c κs. search needs)
-    (λ c. search needs)
-    (λ c κs. search needs)
-    (λ c. search needs)
-    (λ c κs. search needs)
-    (λ c. search needs)
-    (λ c κs. search needs)
-    (λ c. search needs)
-    (λ c κs. search needs)
-    (λ c. search needs)
-    (λ c κs. search needs)
-    (λ c. search needs)
-    (λ c κs. search needs)
     (λ c. search needs)
     (λ c κs. search needs)
     returns)

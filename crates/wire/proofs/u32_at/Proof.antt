@@ -1,35 +1,11 @@
--- Inside, the sum of the four bytes is the definition's own; elsewhere the other function answers.
+-- Inside, the four bytes are read together; elsewhere the other function answers.
 use native.Mathlib.Omega.{arith}
-use Rattle.definition.specs.Bytes.{u32At}
 use borrow.Author.Needs.{needs}
 use Rattle.wire.proofs.u32_at.Statement.{statement}
 use Rattle.wire.proofs.u32_at.Tie as tie
 
-returns : tie.Need-returns
-unfolding u32At
-returns c = omega arith
+u32-inside-requires : tie.Need-u32-inside-requires
+u32-inside-requires c κs = omega arith
 
 pub u32-at-spec : {M : Type 1} → statement M
-u32-at-spec =
-    tie.close
-    (tie.spec
-    (λ c. search needs)
-    (λ c κs. search needs)
-    (λ c. search needs)
-    (λ c. search needs)
-    (λ c κs. search needs)
-    (λ c. search needs)
-    (λ c. search needs)
-    (λ c. search needs)
-    (λ c. search needs)
-    (λ c κs. search needs)
-    (λ c. search needs)
-    (λ c. search needs)
-    (λ c. search needs)
-    (λ c. search needs)
-    (λ c κs. search needs)
-    (λ c. search needs)
-    (λ c. search needs)
-    returns
-    (λ c κs. search needs)
-    (λ c. search needs))
+u32-at-spec = tie.close (tie.spec u32-inside-requires (λ c. search needs) (λ c κs. search needs) (λ c. search needs))

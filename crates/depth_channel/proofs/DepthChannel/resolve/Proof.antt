@@ -1,16 +1,19 @@
--- Each return is one of the ways through resolve.
+-- A channel is resolved without its value, and the value put in.
 use borrow.Author.Needs.{needs}
+use Rattle.definition.specs.Bytes.{f32OfBits}
 use Rattle.definition.specs.Channel.{handleDepth}
-use Rattle.depth_channel.specs.Depth.{channelIn}
-use Rattle.channel.proofs.Resolve.{read-only, operational}
+use Rattle.depth_channel.specs.Depth.{fieldIn}
+use Rattle.channel.proofs.Resolve.{resolve-valued}
 use Rattle.depth_channel.proofs.DepthChannel.resolve.Statement.{statement}
 use Rattle.depth_channel.proofs.DepthChannel.resolve.Tie as tie
 
 returns : tie.Need-returns
-returns c = read-only handleDepth _ (channelIn (c .before .before .args .self)) (c .before .if1 .taken) (c .without-ops .ensures)
-
-returns-2 : tie.Need-returns-2
-returns-2 c = operational handleDepth _ (channelIn (c .before .before .args .self)) (c .before .if1 .left) (c .resolve-ops .ensures)
+returns c =
+    let c3 = c .before .before .before in
+    let self = c3 .before .before .args .self in
+    resolve-valued handleDepth _ (self .given) (f32OfBits 0) _ _ _ _ (fieldIn (self .load)) _ _ (c3 .before .clear-value .ensures) (c3 .handle-clear .ensures) (c .before .before .asked .ensures) (c .before .resolve .ensures) (c .with-answer .ensures)
 
 pub resolve-spec : {M : Type 1} → statement M
-resolve-spec = tie.close (tie.spec (λ c κs. search needs) (λ c κs. search needs) returns returns-2)
+resolve-spec =
+    tie.close
+    (tie.spec (λ c κs. search needs) (λ c κs. search needs) (λ c κs. search needs) (λ c κs. search needs) (λ c κs. search needs) returns)

@@ -1,16 +1,18 @@
--- Each return is one of the ways through resolve.
+-- A channel is resolved without its value, and the value put in.
 use borrow.Author.Needs.{needs}
-use Rattle.definition.specs.Channel.{handleStencil}
-use Rattle.stencil_channel.specs.Stencil.{channelIn}
-use Rattle.channel.proofs.Resolve.{read-only, operational}
+use Rattle.definition.specs.Channel.{value, handleStencil}
+use Rattle.stencil_channel.specs.Stencil.{fieldIn}
+use Rattle.channel.proofs.Resolve.{resolve-valued}
 use Rattle.stencil_channel.proofs.StencilChannel.resolve.Statement.{statement}
 use Rattle.stencil_channel.proofs.StencilChannel.resolve.Tie as tie
 
 returns : tie.Need-returns
-returns c = read-only handleStencil _ (channelIn (c .before .before .args .self)) (c .before .if1 .taken) (c .without-ops .ensures)
-
-returns-2 : tie.Need-returns-2
-returns-2 c = operational handleStencil _ (channelIn (c .before .before .args .self)) (c .before .if1 .left) (c .resolve-ops .ensures)
+returns c =
+    let c3 = c .before .before .before in
+    let self = c3 .before .before .args .self in
+    resolve-valued handleStencil _ (self .given) 0 _ (value tt) _ _ (fieldIn (self .load)) _ _ (c3 .before .clear-value .ensures) (c3 .handle-clear .ensures) (c .before .before .asked .ensures) (c .before .resolve .ensures) (c .with-answer .ensures)
 
 pub resolve-spec : {M : Type 1} → statement M
-resolve-spec = tie.close (tie.spec (λ c κs. search needs) (λ c κs. search needs) returns returns-2)
+resolve-spec =
+    tie.close
+    (tie.spec (λ c κs. search needs) (λ c κs. search needs) (λ c κs. search needs) (λ c κs. search needs) (λ c κs. search needs) returns)

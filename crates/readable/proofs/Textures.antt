@@ -1,0 +1,54 @@
+-- The texture table in one reading: a row that cannot be read refuses the table, and where all rows can be read the number
+-- of surfaces decides.
+use mathlib.Core.Path.{_≡_, refl, sym, ap, _∙_}
+use mathlib.Core.Bool.{Bool, true, false, _&&_}
+use Prim.Native.Nat.{ℕ, _+_, _*_, _<_, _≤_}
+use native.Mathlib.Omega.{arith}
+use native.Mathlib.Nat.{mul-le-mul}
+use lib.Dec.{leb}
+use Rattle.definition.specs.Session.{Session, surfacesIn, surfacesBefore, surfaceCount}
+use Rattle.definition.specs.Readable.{textureRight, texturesRead, texturesRight}
+use Rattle.definition.specs.declared.Texture.{Texture}
+use Rattle.laws.proofs.Tests.{and-on, and-off-right}
+use Rattle.laws.proofs.Folds.{textures-none, textures-turn, textures-stop, before-none, before-turn}
+use Rattle.readable.proofs.Valid.{valid-texture}
+
+-- The first k rows: each can be read, and the sum is the number of their surfaces, at most 480 each.
+pub record Read (S : Session) (k sum : ℕ) : Type 0 where
+  pub each : texturesRead S k ≡ true
+  pub counted : sum ≡ surfacesBefore S k
+  pub few : sum ≤ 480 * k
+
+pub read-none : (S : Session) → Read S 0 0
+read-none S = record { each = textures-none S; counted = sym (before-none S); few = omega arith }
+
+-- A texture row that can be read has at most 15 mips of 32 layers.
+few-in : (t : Texture) → textureRight t ≡ true → surfacesIn t ≤ 480
+few-in t e = let v = valid-texture t e in mul-le-mul (v .mips .1) (v .layers .1)
+
+-- Row k, its test, and its surfaces.
+module _ (S : Session) (k : ℕ) {t : Texture} {right : Bool} (row : t ≡ S .texture k) (test : right ≡ textureRight t) where
+  judged : right ≡ textureRight (S .texture k)
+  judged = test ∙ ap textureRight row
+
+  -- One row more.
+  pub read-turn : {sum m : ℕ} → Read S k sum → right ≡ true → m ≡ surfacesIn t → Read S (k + 1) (sum + m)
+  read-turn r e q =
+      let m-few = few-in t (sym test ∙ e) in
+      record {
+        each = textures-turn S k ∙ and-on _ _ (r .each) (sym judged ∙ e);
+        counted = simp (r .counted, q, row, before-turn);
+        few = omega (arith, r .few, q, m-few);
+      }
+
+  -- A row that cannot be read refuses the table.
+  pub row-refused : k < S .textureCount → right ≡ false → false ≡ texturesRight S
+  unfolding texturesRight
+  row-refused h e =
+      let stop = textures-stop S (k + 1) (S .textureCount) (omega arith) (textures-turn S k ∙ and-off-right (texturesRead S k) _ (sym judged ∙ e)) in
+      ap (λ b. b && leb (surfaceCount S) 4096) (sym stop)
+
+-- Where each row can be read, the surfaces decide.
+pub read-all : (S : Session) (sum : ℕ) → Read S (S .textureCount) sum → leb sum 4096 ≡ texturesRight S
+unfolding texturesRight
+read-all S sum r = ap (λ m. leb m 4096) (r .counted) ∙ ap (λ b. b && leb (surfaceCount S) 4096) (sym (r .each))
