@@ -1,5 +1,5 @@
 -- What a course tells of a whole pass: numbers 49 and 50, and the room of every step, since actions only grow and clears come from discards.
-use Prim.Native.Nat.{ℕ, _+_, _*_, _≤_}
+use Prim.Native.Nat.{ℕ, _+_, _≤_}
 use native.Mathlib.Omega.{arith}
 use mathlib.Core.Path.{_≡_, refl, sym, ap, subst, _∙_}
 use mathlib.Core.Bool.{Bool, true, false, _&&_}
@@ -22,8 +22,6 @@ use Rattle.laws.proofs.Tests.{and-left}
 use Rattle.laws.proofs.Lists.{attach-append}
 use Rattle.laws.proofs.Room.{all-held, listed-append, discards-fit, fit-append}
 use Rattle.records.specs.Lent.{actionOf}
-use Rattle.memory_init.specs.declared.Counts.{Counts}
-use Rattle.memory_init.specs.Lent.{Room}
 use Rattle.course.specs.declared.Course.{Course}
 use Rattle.course.specs.Course.{Tracks}
 use Rattle.course.proofs.Tracking.{counted-fits}
@@ -101,7 +99,3 @@ fit-first xs ys l d a h z n = record {
   actions = omega (arith, actions-grow ys (attachAll xs l), ap (λ (q : Lists). length (q .actions)) (attach-append xs ys l), leb-true (length (attachAll (xs ++ ys) l .actions)) maxActions a);
   clears = omega (arith, all-held xs l, listed-append xs ys);
 }
-
--- Lent lists of full length have that room.
-pub fit-room : (l : Lists) (n : Counts) (d a c : List ℕ) → Fit l → n .discards ≤ maxDiscards → 192 ≤ length d → 3072 ≤ length a → 240 ≤ length c → Room l n d a c
-fit-room l n d a c fit h ld la lc = record { listed = omega arith; discards = omega arith; actions = omega arith; clears = omega arith }

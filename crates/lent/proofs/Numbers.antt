@@ -6,8 +6,8 @@ use mathlib.Core.Bool.{Bool, true, false, cond}
 use Prim.Native.Nat.{ℕ, zero, suc, _+_, _*_, _/_, _%_, _^_, _≤_, _<_}
 use native.Mathlib.Omega.{arith}
 use lib.Dec.{leb}
-use lib.ListN.{length, take, drop, getD, length-set}
-use lib.Seq.{getD-set-other, drop-set-lt, take-suc}
+use lib.ListN.{length, take, drop, getD, length-set, length-append}
+use lib.Seq.{getD-set-other, drop-set-lt, take-suc, take-all}
 use Rattle.definition.specs.Bytes.{u32At}
 use Rattle.wire.specs.Writing.{putBytes, putNumber}
 use Rattle.wire.proofs.Writing.{put-length, put-read}
@@ -96,3 +96,18 @@ numbers-read b at xs (suc n) h l small =
     (numbers-before w at (at + 4 * n) (getD xs n 0) n (omega arith) ∙ numbers-read b at xs n (omega arith) (omega arith) (λ i g. small i (omega arith)))
     (sym (put-read w (at + 4 * n) (getD xs n 0) room (small n (omega arith))))
     ∙ sym (take-suc xs n 0 (omega arith))
+
+-- So many numbers are read as are asked for.
+length-numbers : (b : List ℕ) (at n : ℕ) → length (numbersAt b at n) ≡ n
+unfolding numbersAt
+length-numbers b at zero = refl
+length-numbers b at (suc n) = length-append (numbersAt b at n) (u32At b (at + 4 * n) ∷ []) ∙ omega (arith, length-numbers b at n)
+
+pub whole-numbers : (b : List ℕ) (at n : ℕ) → take n (numbersAt b at n) ≡ numbersAt b at n
+whole-numbers b at n = take-all n (numbersAt b at n) (omega (arith, length-numbers b at n))
+
+-- Numbers that stand before the place stay.
+pub numbers-kept : (b : List ℕ) (at : ℕ) (xs : List ℕ) (n j m : ℕ) → j + 4 * m ≤ at → numbersAt (putNumbers b at xs n) j m ≡ numbersAt b j m
+unfolding numbersAt
+numbers-kept b at xs n j zero h = refl
+numbers-kept b at xs n j (suc m) h = λ q. numbers-kept b at xs n j m (omega arith) q ++ (number-kept b at xs n (j + 4 * m) (omega arith) q ∷ [])

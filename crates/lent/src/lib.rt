@@ -1,5 +1,7 @@
 // Numbers that a caller lends as little-endian bytes, moved into and out of slices of numbers.
 // Reading and writing are inverse to each other where the bytes have room, which the caller knows beforehand.
+pub mod packed;
+
 use wire::put_u32;
 use wire::u32_at;
 ghost use mathlib.Core.Path.{_≡_};

@@ -1,10 +1,10 @@
 -- Each test of a list is the test of one entry more.
-use Prim.Native.Nat.{ℕ, suc, _+_, _-_, _*_, _≤_, _<_}
+use Prim.Native.Nat.{ℕ, _+_, _-_, _≤_, _<_}
 use native.Mathlib.Omega.{arith}
 use native.Mathlib.Numerals.{add-one}
-use mathlib.Core.Path.{_≡_, refl, sym, ap, ap₂, _∙_}
+use mathlib.Core.Path.{_≡_, refl, sym, ap, _∙_}
 use mathlib.Core.Bool.{Bool, true, false, _&&_}
-use mathlib.Core.List.{List, [], _∷_, _++_}
+use mathlib.Core.List.{List, [], _∷_}
 use lib.Dec.{leb}
 use lib.ListN.{length, getD, drop}
 use Rattle.definition.specs.Session.{Session, surfaceCount}
@@ -18,8 +18,8 @@ use Rattle.lists.specs.Records.{records}
 use Rattle.lists.proofs.Records.{records-suc, records-length}
 use Rattle.records.specs.Lent.{decodeSurface, decodeAction, surfaces, surfaceIn, actions, actionIn}
 use Rattle.memory_init.specs.declared.Counts.{Counts}
-use Rattle.memory_init.specs.Lent.{held}
-use Rattle.lent_right.specs.Lent.{kindsRight, countsFit, state, right}
+use Rattle.memory_init.specs.Lent.{held, Within}
+use Rattle.lent_right.specs.Lent.{countsFit, right}
 
 and-true : (a : Bool) → (a && true) ≡ a
 and-true true = refl
@@ -52,14 +52,6 @@ module _ (S : Session) (l : List ℕ) where
       ∙ actions-append S (actions i l) (actionIn i l ∷ [])
       ∙ ap (λ q. actionsRight S (actions i l) && q) (and-true (rangeRight S (actionIn i l .range)))
 
-pub kinds-none : (l : List ℕ) → kindsRight 0 l ≡ true
-unfolding kindsRight
-kinds-none l = refl
-
-pub kinds-turn : (l : List ℕ) (i : ℕ) → kindsRight (i + 1) l ≡ (kindsRight i l && leb (getD l (6 * i + 5) 0) 1)
-unfolding kindsRight
-kinds-turn l i = rw (add-one i)
-
 -- Of the bytes, what is tested so far and what is left.
 pub bytes-start : (bs : List ℕ) (n : ℕ) → bytesRight n bs ≡ (true && bytesRight (n - 0) (drop 0 bs))
 bytes-start bs n = ap (λ (q : ℕ). bytesRight q bs) (let e : n ≡ n - 0 = omega arith in e)
@@ -83,39 +75,21 @@ counts-held n d a c =
     let g = records-length 3 decodeSurface (n .clears) c in
     λ q. leb (e q) maxDiscards && leb (f q) maxActions && leb (g q) maxClears
 
-order : (k n d a c b : Bool) → n ≡ true → ((((k && d) && a) && c) && b) ≡ (k && ((((n && d) && a) && c) && b))
-order true n d a c b h = ap (λ q. (((q && d) && a) && c) && b) (sym h)
-order false n d a c b h = refl
-
 module _ (S : Session) (n : Counts) (d a c status : List ℕ) where
   -- A count out of range.
   pub right-counts : countsFit n ≡ false → false ≡ right S n d a c status
   unfolding lentRight
-  right-counts h = sym (none (kindsRight (n .actions) a) (countsRight (held n d a c)) _ _ _ _ (counts-held n d a c ∙ h))
-    where
-      none : (k n d a c b : Bool) → n ≡ false → (k && ((((n && d) && a) && c) && b)) ≡ false
-      none true n d a c b h = ap (λ q. (((q && d) && a) && c) && b) h
-      none false n d a c b h = refl
+  right-counts h = ap (λ q. (((q && surfacesRight S (surfaces (n .discards) d)) && actionsRight S (actions (n .actions) a)) && surfacesRight S (surfaces (n .clears) c)) && bytesRight (surfaceCount S) status) (sym (counts-held n d a c ∙ h))
 
   -- The tests of the rest, where the counts are in range.
   pub right-rest : countsFit n ≡ true
-      → ((((kindsRight (n .actions) a && surfacesRight S (surfaces (n .discards) d)) && actionsRight S (actions (n .actions) a)) && surfacesRight S (surfaces (n .clears) c))
-      && bytesRight (surfaceCount S) status)
+      → (((surfacesRight S (surfaces (n .discards) d) && actionsRight S (actions (n .actions) a)) && surfacesRight S (surfaces (n .clears) c)) && bytesRight (surfaceCount S) status)
       ≡ right S n d a c status
   unfolding lentRight
-  right-rest h =
-      order (kindsRight (n .actions) a) (countsRight (held n d a c)) (surfacesRight S (surfaces (n .discards) d)) (actionsRight S (actions (n .actions) a))
-      (surfacesRight S (surfaces (n .clears) c))
-      (bytesRight (surfaceCount S) status)
-      (counts-held n d a c ∙ h)
+  right-rest h = ap (λ q. (((q && surfacesRight S (surfaces (n .discards) d)) && actionsRight S (actions (n .actions) a)) && surfacesRight S (surfaces (n .clears) c)) && bytesRight (surfaceCount S) status) (sym (counts-held n d a c ∙ h))
 
 -- Counts in range, as facts on numbers.
-pub record InRoom (n : Counts) : Type 0 where
-  pub discards : n .discards ≤ maxDiscards
-  pub actions : n .actions ≤ maxActions
-  pub clears : n .clears ≤ maxClears
-
-pub counts-in : (n : Counts) → countsFit n ≡ true → InRoom n
+pub counts-in : (n : Counts) → countsFit n ≡ true → Within n
 counts-in n h =
     let both = and-left (leb (n .discards) maxDiscards && leb (n .actions) maxActions) (leb (n .clears) maxClears) h in
     record {

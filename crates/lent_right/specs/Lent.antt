@@ -1,19 +1,14 @@
--- Number 6 of what is lent: kinds are numbers, and the rest is the definition's test of the lists that the numbers stand for.
-use Prim.Native.Nat.{ℕ, zero, suc, _+_, _*_, _≤_}
-use mathlib.Core.Bool.{Bool, true, _&&_}
+-- Number 6 of what is lent: the definition's test of the lists that the numbers stand for.
+use Prim.Native.Nat.{ℕ, _*_, _≤_}
+use mathlib.Core.Bool.{Bool, _&&_}
 use mathlib.Core.List.{List}
 use lib.Dec.{leb}
-use lib.ListN.{length, getD}
+use lib.ListN.{length}
 use Rattle.definition.specs.Sizes.{maxSurfaces, maxDiscards, maxActions, maxClears}
 use Rattle.definition.specs.Session.{Session, surfaceCount}
 use Rattle.definition.specs.Calls.{State, lentRight}
 use Rattle.memory_init.specs.declared.Counts.{Counts}
 use Rattle.memory_init.specs.Lent.{held}
-
--- The kinds of the first n actions: 0 implicit, 1 needing.
-unfoldable pub kindsRight : ℕ → List ℕ → Bool
-kindsRight zero l = true
-kindsRight (suc n) l = kindsRight n l && leb (getD l (6 * n + 5) 0) 1
 
 -- The counts are within the room.
 abbrev pub countsFit : Counts → Bool
@@ -25,7 +20,7 @@ state n d a c status = record { lists = held n d a c; status = status }
 
 -- What is lent is right.
 abbrev pub right : Session → Counts → List ℕ → List ℕ → List ℕ → List ℕ → Bool
-right S n d a c status = kindsRight (n .actions) a && lentRight S (state n d a c status)
+right S n d a c status = lentRight S (state n d a c status)
 
 -- The lent lists and bytes have the lengths that document 01 gives them, at least, and the session no more surfaces than bytes.
 pub record Long (S : Session) (d a c b : List ℕ) : Type 0 where

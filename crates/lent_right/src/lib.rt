@@ -17,7 +17,7 @@ ghost use Rattle.definition.specs.Session.{session, surfaceCount};
 ghost use Rattle.definition.specs.Sizes.{maxSurfaces};
 ghost use Rattle.definition.specs.Calls.{surfaceRight, rangeRight, surfacesRight, actionsRight, bytesRight};
 ghost use Rattle.records.specs.Lent.{surfaces, actions};
-ghost use Rattle.lent_right.specs.Lent.{kindsRight, countsFit, right, Long};
+ghost use Rattle.lent_right.specs.Lent.{countsFit, right, Long};
 
 // The session has the surface.
 pub fn surface_right(s: &[u8], x: Surface) -> bool
@@ -75,20 +75,6 @@ pub fn actions_right(s: &[u8], l: &[u32], n: usize) -> bool
     ok
 }
 
-// The kinds of the first n actions of a lent list.
-pub fn kinds_right(l: &[u32], n: usize) -> bool
-    requires { ⌜ 6 * n ≤ length (now l) ⌝ }
-    ensures { λ r. ⌜ r ≡ kindsRight n (now (l .entry)) ⌝ }
-{
-    let mut ok = true;
-    let mut i: usize = 0;
-    while i < n {
-        ok = ok & (l[6 * i + 5] <= 1);
-        i += 1;
-    }
-    ok
-}
-
 // The first n status bytes.
 pub fn bytes_right(status: &[u8], n: usize) -> bool
     requires { ⌜ n ≤ length (now status) ⌝ }
@@ -133,8 +119,7 @@ pub fn lent_right(
     if !counts_right(n) {
         return false;
     }
-    kinds_right(actions, n.actions)
-        & surfaces_right(s, discards, n.discards)
+    surfaces_right(s, discards, n.discards)
         & actions_right(s, actions, n.actions)
         & surfaces_right(s, clears, n.clears)
         & bytes_right(status, surface_count(s))

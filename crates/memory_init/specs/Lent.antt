@@ -4,7 +4,7 @@ use mathlib.Core.Path.{_≡_}
 use mathlib.Core.List.{List}
 use mathlib.Core.Option.{Option, none, some}
 use lib.ListN.{length, drop}
-use Rattle.definition.specs.Sizes.{maxDiscards}
+use Rattle.definition.specs.Sizes.{maxDiscards, maxActions, maxClears}
 use Rattle.definition.specs.MemoryInit.{Lists}
 use Rattle.definition.specs.declared.MemoryInitKind.{MemoryInitKind}
 use Rattle.records.specs.Lent.{surfaces, actions}
@@ -15,6 +15,12 @@ use Rattle.memory_init.specs.declared.InitKind.the-variants.{None, Some}
 -- What the three lent lists hold.
 abbrev pub held : Counts → List ℕ → List ℕ → List ℕ → Lists
 held n d a c = record { discards = surfaces (n .discards) d; actions = actions (n .actions) a; clears = surfaces (n .clears) c }
+
+-- The counts are those of lent lists: at most 64 discards, 512 actions and 80 clears.
+pub record Within (n : Counts) : Type 0 where
+  pub discards : n .discards ≤ maxDiscards
+  pub actions : n .actions ≤ maxActions
+  pub clears : n .clears ≤ maxClears
 
 -- The lists l fit the lent lists, and so do the discards that these have already.
 pub record Room (l : Lists) (n : Counts) (d a c : List ℕ) : Type 0 where

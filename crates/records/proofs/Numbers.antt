@@ -13,7 +13,7 @@ use Rattle.definition.specs.declared.MemoryInitKind.{MemoryInitKind}
 use Rattle.definition.specs.declared.MemoryInitKind.the-variants.{ImplicitlyInitialized, NeedsInitializedMemory}
 use Rattle.lists.specs.Records.{recordAt}
 use Rattle.lists.proofs.Records.{Written, written, number-at}
-use Rattle.records.specs.Lent.{decodeSurface, encodeSurface, decodeKind, encodeKind, actionOf, decodeAction, encodeAction, surfaceIn, actionIn}
+use Rattle.records.specs.Lent.{decodeSurface, encodeSurface, decodeKind, encodeKind, layersOf, actionOf, decodeAction, encodeAction, surfaceIn, actionIn}
 
 -- The stores of straight-line code, each so many places after the first.
 pub surface-stores : (l : List ℕ) (i : ℕ) (s : Surface)
@@ -45,7 +45,7 @@ surface-read l i =
 
 -- And so is an action.
 pub range-read : (l : List ℕ) (i : ℕ)
-    → rangeAt (getD l (6 * i) 0) (getD l (6 * i + 1) 0) (getD l (6 * i + 2) 0) (getD l (6 * i + 3) 0) (getD l (6 * i + 4) 0) ≡ actionIn i l .range
+    → rangeAt (getD l (6 * i) 0) (getD l (6 * i + 1) 0) (getD l (6 * i + 2) 0) (getD l (6 * i + 3) 0) (layersOf (getD l (6 * i + 5) 0) (getD l (6 * i + 4) 0)) ≡ actionIn i l .range
 unfolding recordAt decodeAction
 range-read l i =
     let e₀ = number-at 6 i 0 l (omega arith) ∙ ap (λ (q : ℕ). getD l q 0) (add-zero (6 * i)) in
@@ -53,7 +53,8 @@ range-read l i =
     let e₂ = number-at 6 i 2 l (omega arith) in
     let e₃ = number-at 6 i 3 l (omega arith) in
     let e₄ = number-at 6 i 4 l (omega arith) in
-    λ q. rangeAt (sym e₀ q) (sym e₁ q) (sym e₂ q) (sym e₃ q) (sym e₄ q)
+    let e₅ = number-at 6 i 5 l (omega arith) in
+    λ q. rangeAt (sym e₀ q) (sym e₁ q) (sym e₂ q) (sym e₃ q) (layersOf (sym e₅ q) (sym e₄ q))
 
 pub kind-read : (l : List ℕ) (i : ℕ) → decodeKind (getD l (6 * i + 5) 0) ≡ actionIn i l .kind
 unfolding recordAt decodeAction

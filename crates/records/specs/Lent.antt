@@ -1,7 +1,9 @@
 -- The lent lists: numbers that stand for surfaces (texture, mip, layer) and actions (texture, mip, mips, layer, layers, kind), one after the other.
 -- Every contract speaks of the first so many of them.
 use Prim.Native.Nat.{ℕ, zero, suc}
+use mathlib.Core.Bool.{cond}
 use mathlib.Core.List.{List, [], _∷_}
+use lib.Dec.{leb}
 use lib.ListN.{getD}
 use Rattle.definition.specs.Surfaces.{surfaceAt, rangeAt}
 use Rattle.definition.specs.declared.Surface.{Surface}
@@ -18,7 +20,7 @@ decodeSurface l = surfaceAt (getD l 0 0) (getD l 1 0) (getD l 2 0)
 abbrev pub encodeSurface : Surface → List ℕ
 encodeSurface s = s .texture ∷ s .mip ∷ s .layer ∷ []
 
--- A kind and its number. A lent kind over 1 is refused as 6; the clauses read it as 1.
+-- A kind and its number.
 abbrev pub decodeKind : ℕ → MemoryInitKind
 decodeKind zero = ImplicitlyInitialized
 decodeKind (suc n) = NeedsInitializedMemory
@@ -31,8 +33,12 @@ encodeKind NeedsInitializedMemory = 1
 abbrev pub actionOf : Range → MemoryInitKind → Action
 actionOf r k = record { range = r; kind = k }
 
+-- A number over 1 is no kind: the action is read as one of no layers, which is refused as 6.
+abbrev pub layersOf : ℕ → ℕ → ℕ
+layersOf kind layers = cond (leb kind 1) layers 0
+
 unfoldable pub decodeAction : List ℕ → Action
-decodeAction l = actionOf (rangeAt (getD l 0 0) (getD l 1 0) (getD l 2 0) (getD l 3 0) (getD l 4 0)) (decodeKind (getD l 5 0))
+decodeAction l = actionOf (rangeAt (getD l 0 0) (getD l 1 0) (getD l 2 0) (getD l 3 0) (layersOf (getD l 5 0) (getD l 4 0))) (decodeKind (getD l 5 0))
 
 abbrev pub encodeAction : Range → MemoryInitKind → List ℕ
 encodeAction r k = r .texture ∷ r .mip ∷ r .mips ∷ r .layer ∷ r .layers ∷ encodeKind k ∷ []

@@ -8,7 +8,7 @@ ghost use Prim.Native.Nat.{_+_, _*_, _≤_};
 ghost use lib.ListN.{length};
 ghost use lib.Seq.{sets};
 ghost use Rattle.definition.specs.Surfaces as Surfaces;
-ghost use Rattle.records.specs.Lent.{encodeSurface, decodeKind, encodeKind, encodeAction, surfaceIn, actionIn};
+ghost use Rattle.records.specs.Lent.{encodeSurface, decodeKind, encodeKind, layersOf, encodeAction, surfaceIn, actionIn};
 
 // x is one of the `count` numbers from `first` on. The sum of two u32 fits a u64.
 pub fn within(first: u32, count: u32, x: u32) -> bool
@@ -109,6 +109,13 @@ pub fn put_action(l: &mut [u32], i: usize, range: Range, kind: MemoryInitKind)
     l[at + 5] = encode_kind(kind);
 }
 
+// The layers of an action, by its kind's number.
+fn layers_of(kind: u32, layers: u32) -> u32
+    ensures { λ r. ⌜ r ≡ layersOf kind layers ⌝ }
+{
+    if kind <= 1 { layers } else { 0 }
+}
+
 // The range of the action at place i.
 pub fn range_at(l: &[u32], i: usize) -> Range
     requires { ⌜ 6 * i + 6 ≤ length (now l) ⌝ }
@@ -120,7 +127,7 @@ pub fn range_at(l: &[u32], i: usize) -> Range
         mip: l[at + 1],
         mips: l[at + 2],
         layer: l[at + 3],
-        layers: l[at + 4],
+        layers: layers_of(l[at + 5], l[at + 4]),
     }
 }
 

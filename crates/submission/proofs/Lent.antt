@@ -1,20 +1,18 @@
 -- What is lent and right can be submitted.
 use Prim.Native.Nat.{ℕ, _≤_}
 use native.Mathlib.Omega.{arith}
-use mathlib.Core.Path.{_≡_, sym, ap, _∙_}
+use mathlib.Core.Path.{_≡_, sym, _∙_}
 use mathlib.Core.Bool.{true, _&&_}
 use mathlib.Core.List.{List}
-use lib.ListN.{length}
-use borrow.Author.Tests.{leb-true}
 use Rattle.definition.specs.Sizes.{maxTextures}
 use Rattle.definition.specs.Session.{Session, surfaceCount}
 use Rattle.definition.specs.Calls.{surfacesRight, actionsRight, bytesRight, countsRight, lentRight}
 use Rattle.laws.proofs.Tests.{and-left, and-right}
 use Rattle.records.specs.Lent.{surfaces, actions}
 use Rattle.memory_init.specs.declared.Counts.{Counts}
-use Rattle.memory_init.specs.Lent.{held}
-use Rattle.lent_right.specs.Lent.{kindsRight, countsFit, state, right, Long}
-use Rattle.lent_right.proofs.Turns.{counts-held, InRoom, counts-in}
+use Rattle.memory_init.specs.Lent.{held, Within}
+use Rattle.lent_right.specs.Lent.{right, Long}
+use Rattle.lent_right.proofs.Turns.{counts-held, counts-in}
 use Rattle.submission.specs.Runs.{Submits}
 
 pub right-submits : (S : Session) (n : Counts) (d a c b : List ℕ) → S .textureCount ≤ maxTextures → Long S d a c b → right S n d a c b ≡ true → Submits S n d a b
@@ -24,10 +22,10 @@ right-submits S n d a c b few long ok =
     let dr = surfacesRight S (surfaces (n .discards) d) in
     let ar = actionsRight S (actions (n .actions) a) in
     let cr = surfacesRight S (surfaces (n .clears) c) in
-    let all : ((((counts && dr) && ar) && cr) && bytesRight (surfaceCount S) b) ≡ true = and-right (kindsRight (n .actions) a) _ ok in
+    let all : ((((counts && dr) && ar) && cr) && bytesRight (surfaceCount S) b) ≡ true = ok in
     let three : ((counts && dr) && ar) ≡ true = and-left ((counts && dr) && ar) cr (and-left (((counts && dr) && ar) && cr) (bytesRight (surfaceCount S) b) all) in
     let two : (counts && dr) ≡ true = and-left (counts && dr) ar three in
-    let room : InRoom n = counts-in n (sym (counts-held n d a c) ∙ and-left counts dr two) in
+    let room : Within n = counts-in n (sym (counts-held n d a c) ∙ and-left counts dr two) in
     record {
       textures = few;
       surfaces = long .surfaces;

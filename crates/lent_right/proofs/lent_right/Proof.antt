@@ -6,7 +6,8 @@ use borrow.Author.Tests.{not-true, not-false}
 use Rattle.definition.specs.Calls.{bytesRight}
 use Rattle.definition.specs.Session.{session}
 use Rattle.lent_right.specs.Lent.{countsFit}
-use Rattle.lent_right.proofs.Turns.{right-counts, right-rest, InRoom, counts-in}
+use Rattle.memory_init.specs.Lent.{Within}
+use Rattle.lent_right.proofs.Turns.{right-counts, right-rest, counts-in}
 use borrow.Author.Needs.{needs}
 use Rattle.lent_right.proofs.lent_right.Statement.{statement}
 use Rattle.lent_right.proofs.lent_right.Tie as tie
@@ -15,30 +16,27 @@ use Rattle.lent_right.proofs.lent_right.Tie as tie
 fit : (c : tie.Else1) → countsFit (c .before .before .before .before .before .before .before .args .n) ≡ true
 fit c = sym (c .before .counts-right .ensures) ∙ not-false (c .before .counts-right .result) (c .if1 .left)
 
-in-room : (c : tie.Else1) → InRoom (c .before .before .before .before .before .before .before .args .n)
+in-room : (c : tie.Else1) → Within (c .before .before .before .before .before .before .before .args .n)
 in-room c = counts-in (c .before .before .before .before .before .before .before .args .n) (fit c)
 
 returns : tie.Need-returns
 returns c = let start = c .before .before .before .before .before .before .before in
     right-counts _ _ _ _ _ _ (sym (c .before .counts-right .ensures) ∙ not-true (c .before .counts-right .result) (c .if1 .taken))
 
-kinds-right-requires : tie.Need-kinds-right-requires
-kinds-right-requires c κs = omega (arith, in-room c .actions)
-
 surfaces-right-requires : tie.Need-surfaces-right-requires
-surfaces-right-requires c κs = omega (arith, in-room (c .before) .discards)
+surfaces-right-requires c κs = omega (arith, in-room c .discards)
 
 actions-right-requires : tie.Need-actions-right-requires
-actions-right-requires c κs = omega (arith, in-room (c .before .before) .actions)
+actions-right-requires c κs = omega (arith, in-room (c .before) .actions)
 
 surfaces-right-requires-2 : tie.Need-surfaces-right-requires-2
-surfaces-right-requires-2 c κs = omega (arith, in-room (c .before .before .before) .clears)
+surfaces-right-requires-2 c κs = omega (arith, in-room (c .before .before) .clears)
 
 returns-2 : tie.Need-returns-2
-returns-2 c = let start = c .before .before .before .before .before .before .before .before .before .before .before .before .before in
+returns-2 c = let start = c .before .before .before .before .before .before .before .before .before .before .before .before in
     let bytes = c .bytes-right .ensures ∙ ap (λ n. bytesRight n (start .args .status .now)) (c .before .surface-count .ensures) in
-    (λ q. c .before .before .before .before .before .kinds-right .ensures q && c .before .before .before .before .surfaces-right .ensures q && c .before .before .before .actions-right .ensures q && c .before .before .surfaces-right2 .ensures q && bytes q)
-    ∙ right-rest (session (start .args .s .now)) (start .args .n) _ _ _ _ (fit (c .before .before .before .before .before .before))
+    (λ q. c .before .before .before .before .surfaces-right .ensures q && c .before .before .before .actions-right .ensures q && c .before .before .surfaces-right2 .ensures q && bytes q)
+    ∙ right-rest (session (start .args .s .now)) (start .args .n) _ _ _ _ (fit (c .before .before .before .before .before))
 
 pub lent-right-spec : {M : Type 1} → statement M
 lent-right-spec =
@@ -46,7 +44,6 @@ lent-right-spec =
     (tie.spec
     (λ c κs. search needs)
     returns
-    kinds-right-requires
     surfaces-right-requires
     actions-right-requires
     surfaces-right-requires-2
