@@ -4,7 +4,7 @@ use mathlib.Core.Path.{_≡_}
 use mathlib.Core.Bool.{Bool, not, _&&_, _||_, cond, Bool·beq}
 use mathlib.Core.Option.{Option, none, some}
 use lib.Ieee.{Float}
-use Rattle.definition.specs.Channel.{Ops, loads}
+use Rattle.definition.specs.Channel.{Ops, loads, sameLoad}
 use Rattle.definition.specs.Attachments.{regularKind, depthStencilKind, depthStencilDiscards, depthStencilDivergent}
 use Rattle.definition.specs.declared.MemoryInitKind.{MemoryInitKind}
 use Rattle.definition.specs.declared.MemoryInitKind.the-variants.{ImplicitlyInitialized, NeedsInitializedMemory}
@@ -22,15 +22,19 @@ kindBy loads keep = cond loads (some NeedsInitializedMemory) (cond keep (some Im
 abbrev pub plansRegular : {X : Type 0} → Plan → Ops X → Type 0
 plansRegular p c = plans p (regularKind c) (not (c .keep)) 0
 
--- Depth and stencil that do not do the same.
-abbrev pub divergedKind : Ops Float → Ops ℕ → Option MemoryInitKind
+-- Whether the first of two channels decides for both: there is no second, or both load and store alike.
+abbrev pub byFirst : {X Y : Type 0} → Bool → Ops X → Ops Y → Bool
+byFirst both d s = not both || sameLoad (s .load) (d .load) && Bool·beq (s .keep) (d .keep)
+
+-- Two that do not do the same.
+abbrev pub divergedKind : {X Y : Type 0} → Ops X → Ops Y → Option MemoryInitKind
 divergedKind d s =
     cond (loads (d .load) || loads (s .load)) (some NeedsInitializedMemory) (cond (Bool·beq (d .keep) (s .keep)) none (some ImplicitlyInitialized))
 
-abbrev pub divergedAspect : Ops Float → Ops ℕ → ℕ
+abbrev pub divergedAspect : {X Y : Type 0} → Ops X → Ops Y → ℕ
 divergedAspect d s = cond (Bool·beq (d .keep) (s .keep)) 0 (cond (d .keep) 2 1)
 
-abbrev pub plansDiverged : Plan → Ops Float → Ops ℕ → Type 0
+abbrev pub plansDiverged : {X Y : Type 0} → Plan → Ops X → Ops Y → Type 0
 plansDiverged p d s = plans p (divergedKind d s) (not (d .keep) && not (s .keep)) (divergedAspect d s)
 
 -- Depth and stencil, for the aspects of the format.

@@ -1,7 +1,9 @@
 // What an attachment does to the lists: the action it registers, whether it lists a discard, and the aspect that diverges.
 // Every function is total, and its contract is an equation with the definition, under the translations of specs/.
-use channel::color;
+use channel::Operations;
 use channel::color::ColorOps;
+use channel::ignores;
+use channel::loads;
 use channel::stores;
 use definition::MemoryInitKind;
 use depth_channel::ResolvedDepth;
@@ -10,12 +12,12 @@ use stencil_channel::ResolvedStencil;
 ghost use mathlib.Core.Path.{_≡_};
 ghost use mathlib.Core.Bool.{cond, not, false};
 ghost use mathlib.Core.Option.{some};
-ghost use Rattle.definition.specs.Attachments as At;
 ghost use Rattle.channel.specs.Color as Co;
+ghost use Rattle.channel.specs.Kind.{operationsIn};
 ghost use Rattle.depth_channel.specs.Depth as De;
 ghost use Rattle.stencil_channel.specs.Stencil as St;
 ghost use Rattle.memory_init.specs.Lent.{initKind};
-ghost use Rattle.plan.specs.Plan.{kindBy, plans, plansRegular, plansDiverged, plansDepthStencil, usageBy};
+ghost use Rattle.plan.specs.Plan.{kindBy, plans, plansRegular, byFirst, plansDiverged, plansDepthStencil, usageBy};
 ghost use Rattle.definition.specs.declared.MemoryInitKind.the-variants.{ImplicitlyInitialized};
 
 // TextureUses.
@@ -65,13 +67,20 @@ fn init_actions(loads: bool, keeps: bool) -> Plan
     }
 }
 
+// The plan of one channel alone.
+fn regular_plan(ops: Operations) -> Plan
+    ensures { λ r. ⌜ plansRegular r (operationsIn ops) ⌝ }
+{
+    let load = ops.load;
+    let store = ops.store;
+    init_actions(loads(load), stores(store))
+}
+
 // The plan of a colour attachment.
 pub fn color_plan(ops: ColorOps) -> Plan
     ensures { λ r. ⌜ plansRegular r (Co.opsIn ops) ⌝ }
 {
-    let load = ops.load;
-    let store = ops.store;
-    init_actions(color::loads(load), stores(store))
+    regular_plan(ops.operations())
 }
 
 // The plan of a resolve target, which is written whole.
@@ -85,44 +94,31 @@ pub fn resolve_plan() -> Plan
     }
 }
 
-fn depth_plan(depth: ResolvedDepth) -> Plan
-    ensures { λ r. ⌜ plansRegular r (De.opsIn depth) ⌝ }
-{
-    init_actions(
-        depth_channel::loads(depth.load_op()),
-        stores(depth.store_op()),
-    )
-}
-
-fn stencil_plan(stencil: ResolvedStencil) -> Plan
-    ensures { λ r. ⌜ plansRegular r (St.opsIn stencil) ⌝ }
-{
-    init_actions(
-        stencil_channel::loads(stencil.load_op()),
-        stores(stencil.store_op()),
-    )
-}
-
 // Whether the depth channel decides for both: the format has no stencil, or both load and store alike.
-fn by_depth(has_stencil: bool, depth: ResolvedDepth, stencil: ResolvedStencil) -> bool
-    ensures { λ r. ⌜ r ≡ At.byDepth «has_stencil» (De.opsIn depth) (St.opsIn stencil) ⌝ }
+fn by_depth(has_stencil: bool, depth: Operations, stencil: Operations) -> bool
+    ensures { λ r. ⌜ r ≡ byFirst «has_stencil» (operationsIn depth) (operationsIn stencil) ⌝ }
 {
-    let d = depth.load_op();
-    let s = stencil.load_op();
-    let alike = (stencil_channel::loads(s) == depth_channel::loads(d))
-        & (stencil_channel::ignores(s) == depth_channel::ignores(d));
-    (!has_stencil) | (alike & (stores(stencil.store_op()) == stores(depth.store_op())))
+    let d = depth.load;
+    let s = stencil.load;
+    let alike = (loads(s) == loads(d)) & (ignores(s) == ignores(d));
+    let d = depth.store;
+    let s = stencil.store;
+    (!has_stencil) | (alike & (stores(s) == stores(d)))
 }
 
 // Of two channels that differ: a needed action if one of them loads, an implicit one if one of them stores.
-fn diverged_plan(depth: ResolvedDepth, stencil: ResolvedStencil) -> Plan
-    ensures { λ r. ⌜ plansDiverged r (De.opsIn depth) (St.opsIn stencil) ⌝ }
+fn diverged_plan(depth: Operations, stencil: Operations) -> Plan
+    ensures { λ r. ⌜ plansDiverged r (operationsIn depth) (operationsIn stencil) ⌝ }
 {
     let needs = InitKind::Some(MemoryInitKind::NeedsInitializedMemory);
     let implicit = InitKind::Some(MemoryInitKind::ImplicitlyInitialized);
-    let loads = depth_channel::loads(depth.load_op()) | stencil_channel::loads(stencil.load_op());
-    let d = stores(depth.store_op());
-    let s = stores(stencil.store_op());
+    let d = depth.load;
+    let s = stencil.load;
+    let loads = loads(d) | loads(s);
+    let d = depth.store;
+    let s = stencil.store;
+    let d = stores(d);
+    let s = stores(s);
     Plan {
         kind: either(loads, needs, either(d == s, InitKind::None, implicit)),
         discards: (!d) & (!s),
@@ -139,13 +135,15 @@ pub fn depth_stencil_plan(
 ) -> Plan
     ensures { λ r. ⌜ plansDepthStencil r «has_depth» «has_stencil» (De.opsIn depth) (St.opsIn stencil) ⌝ }
 {
-    if by_depth(has_stencil, depth, stencil) {
-        return depth_plan(depth);
+    let d = depth.operations();
+    let s = stencil.operations();
+    if by_depth(has_stencil, d, s) {
+        return regular_plan(d);
     }
     if has_depth {
-        diverged_plan(depth, stencil)
+        diverged_plan(d, s)
     } else {
-        stencil_plan(stencil)
+        regular_plan(s)
     }
 }
 

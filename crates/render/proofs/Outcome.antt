@@ -1,18 +1,18 @@
 -- The outcome of a check, by what refuses the pass: its row, operations and views, then the room of the lists, or nothing.
-use Prim.Native.Nat.{ℕ, _+_, _≤_}
+use Prim.Native.Nat.{ℕ, _≤_}
 use native.Mathlib.Omega.{arith}
 use mathlib.Core.Path.{_≡_, refl, sym, ap, subst, _∙_}
 use mathlib.Core.Bool.{Bool, true, false, cond}
-use mathlib.Core.List.{List, [], _++_, append-nil}
-use lib.ListN.{length}
-use Rattle.definition.specs.Sizes.{maxDiscards, maxActions, maxClears}
+use mathlib.Core.List.{List, [], append-nil}
+use lib.ListN.{length, length-map}
+use Rattle.definition.specs.Sizes.{maxDiscards}
 use Rattle.definition.specs.Session.{Pass, Session}
-use Rattle.definition.specs.Verdict.{nowhere, fine, isFine, _then_, unless}
+use Rattle.definition.specs.Verdict.{nowhere, isFine}
 use Rattle.definition.specs.Readable.{passReads}
 use Rattle.definition.specs.Check.{check}
 use Rattle.definition.specs.MemoryInit.{Lists}
 use Rattle.definition.specs.Attachments.{Attached, attachAll, attachments}
-use Rattle.definition.specs.Pass.{discardsFit, actionsFit, roomVerdict, acceptance, newPass, passVerdict, acceptedPass, refusedPass, outcome, checkPass}
+use Rattle.definition.specs.Pass.{discardsFit, actionsFit, roomVerdict, attachmentReply, newPass, passVerdict, acceptedPass, refusedPass, outcome, checkPass}
 use Rattle.definition.specs.declared.Seen.{Seen}
 use Rattle.definition.specs.declared.Verdict.{Verdict}
 use Rattle.definition.specs.declared.Progress.{Progress}
@@ -24,15 +24,16 @@ use Rattle.lists.specs.Records.{records}
 use Rattle.lists.proofs.Records.{records-length}
 use Rattle.records.specs.Lent.{decodeSurface, decodeAction}
 use Rattle.memory_init.specs.declared.Counts.{Counts}
-use Rattle.memory_init.specs.Lent.{held, Spared}
+use Rattle.memory_init.specs.Lent.{held, Within, Spared}
 use Rattle.memory_init.proofs.Registration.{spared-none}
 use Rattle.readable.proofs.Valid.{valid-pass}
 use Rattle.course.proofs.Room.{Fit, fit-first}
 use Rattle.recording.specs.Recorded.{Fitting, Recorded}
 use Rattle.recording.proofs.Recorded.{fitting-as}
+use Rattle.render.specs.declared.PassReply.{PassReply}
 use Rattle.render.specs.declared.PassOutcome.{PassOutcome}
-use Rattle.render.specs.Outcome.{replyIn, refusedOutcome, acceptedOutcome, Within, Accepted, Checked}
-use Rattle.render.proofs.Reply.{reply-refused, reply-accepted}
+use Rattle.render.specs.Outcome.{replied, refusedOutcome, acceptedOutcome, Whole, Accepted, Checked}
+use Rattle.render.proofs.Reply.{reply-accepted}
 
 -- ── the room of an accepted pass
 
@@ -83,26 +84,30 @@ module _ (S : Session) (p : Pass) (n : Counts) (d a c : List ℕ) (few : n .disc
       → r ≡ acceptedOutcome S (attachments S p) seen m → Accepted S (attachments S p) seen n r d d′ a a′ c c′
   accepted seen m r d′ a′ c′ most g e =
       let lists : held m d′ a′ c′ ≡ attachAll (attachments S p) (newPass (held n d a c)) = g .lists ∙ ap (attachAll (attachments S p)) (held-cleared n d a c) in
+      let told : length (attachAll (attachments S p) (newPass (held n d a c)) .clears) ≡ m .clears = sym (ap (λ (q : Lists). length (q .clears)) lists) ∙ records-length 3 decodeSurface (m .clears) c′ in
       record {
-        reply = ap (λ (q : PassOutcome). replyIn (q .reply) c′) e ∙ reply-accepted S (attachments S p) seen m c′ most ∙ ap (λ (q : Lists). acceptance S seen (attachments S p) (q .clears)) lists;
+        reply = ap (λ (q : PassOutcome). q .reply) e ∙ reply-accepted S (attachments S p) seen m (attachAll (attachments S p) (newPass (held n d a c)) .clears) told;
         lists = ap (λ (q : PassOutcome). held (q .counts) d′ a′ c′) e ∙ lists;
-        verdict = ap (λ (q : PassOutcome). q .reply .verdict) e;
+        whole = subst (λ (q : PassOutcome). Whole (q .reply)) (sym e) (record {
+          attachments = omega (arith, most, length-map (attachments S p) (attachmentReply S));
+          clears = omega (arith, end-fits .clears, told);
+        });
         spared = subst (λ (q : PassOutcome). Spared (q .counts) d d′ a a′ c c′) (sym e) (g .spared);
         within = subst (λ (q : PassOutcome). Within (q .counts)) (sym e) (record {
           discards = g .small;
           actions = omega (arith, end-fits .actions, records-length 6 decodeAction (m .actions) a′, ap (λ (q : Lists). length (q .actions)) lists);
-          clears = omega (arith, end-fits .clears, records-length 3 decodeSurface (m .clears) c′, ap (λ (q : Lists). length (q .clears)) lists);
+          clears = omega (arith, end-fits .clears, told);
         });
       }
 
 -- ── the outcome
 
-outcome-refused : (S : Session) (j : Progress) (xs : List Attached) (l : Lists) (v : Verdict) → passVerdict j xs l ≡ v → isFine v ≡ false → outcome S j xs l ≡ refusedPass v l
+pub outcome-refused : (S : Session) (j : Progress) (xs : List Attached) (l : Lists) (v : Verdict) → passVerdict j xs l ≡ v → isFine v ≡ false → outcome S j xs l ≡ refusedPass v l
 unfolding outcome
 outcome-refused S j xs l v e h =
     ap (λ q. cond (isFine q) (acceptedPass S (j .seen) xs l) (refusedPass q l)) e ∙ cond-off (isFine v) (acceptedPass S (j .seen) xs l) (refusedPass v l) h
 
-outcome-accepted : (S : Session) (j : Progress) (xs : List Attached) (l : Lists) (v : Verdict) → passVerdict j xs l ≡ v → isFine v ≡ true → outcome S j xs l ≡ acceptedPass S (j .seen) xs l
+pub outcome-accepted : (S : Session) (j : Progress) (xs : List Attached) (l : Lists) (v : Verdict) → passVerdict j xs l ≡ v → isFine v ≡ true → outcome S j xs l ≡ acceptedPass S (j .seen) xs l
 unfolding outcome
 outcome-accepted S j xs l v e h =
     ap (λ q. cond (isFine q) (acceptedPass S (j .seen) xs l) (refusedPass q l)) e ∙ cond-on (isFine v) (acceptedPass S (j .seen) xs l) (refusedPass v l) h
@@ -113,11 +118,12 @@ module _ (S : Session) (p : Pass) (n : Counts) (r : PassOutcome) (d a c : List �
   checked-refused v o h e =
       let refusing : checkPass S p (held n d a c) ≡ refusedPass v (held n d a c) = outcome-refused S (check S p) (attachments S p) (held n d a c) v o h in
       record {
-        reply = ap (λ (q : PassOutcome). replyIn (q .reply) c) e ∙ reply-refused v n c ∙ sym (ap (λ q. q .reply) refusing);
+        reply = ap (λ (q : PassOutcome). q .reply) e ∙ sym (ap (λ q. replied (q .reply)) refusing);
         lists = ap (λ (q : PassOutcome). held (q .counts) d a c) e ∙ sym (ap (λ q. q .lists) refusing);
         refused = λ g. record { counts = ap (λ (q : PassOutcome). q .counts) e; discards = refl; actions = refl; clears = refl };
         spared = spared-none (r .counts) d a c;
         within = λ w. subst (λ (q : PassOutcome). Within (q .counts)) (sym e) w;
+        whole = subst (λ (q : PassOutcome). Whole (q .reply)) (sym e) (record { attachments = omega arith; clears = omega arith });
       }
 
   -- 5 and 10 to 48.
@@ -139,9 +145,10 @@ module _ (S : Session) (p : Pass) (n : Counts) (r : PassOutcome) (d a c : List �
       let accepting : checkPass S p (held n d a c) ≡ acceptedPass S (check S p .seen) (attachments S p) (held n d a c) =
       outcome-accepted S (check S p) (attachments S p) (held n d a c) _ (then-go _ _ (ap (λ (q : Progress). isFine (q .verdict)) (sym ej) ∙ f)) h in
       record {
-        reply = g .reply ∙ ap (λ (q : Progress). acceptedPass S (q .seen) (attachments S p) (held n d a c) .reply) ej ∙ sym (ap (λ q. q .reply) accepting);
+        reply = g .reply ∙ ap (λ (q : Progress). replied (acceptedPass S (q .seen) (attachments S p) (held n d a c) .reply)) ej ∙ sym (ap (λ q. replied (q .reply)) accepting);
         lists = g .lists ∙ sym (ap (λ q. q .lists) accepting);
-        refused = λ no. clash (ap isFine (g .verdict)) no;
+        refused = λ no. clash (ap (λ (q : PassReply). isFine (q .verdict)) (g .reply)) no;
         spared = g .spared;
         within = λ w. g .within;
+        whole = g .whole;
       }

@@ -1,24 +1,21 @@
 -- The reply of a pass: a pass has at most seventeen attachments, so that the array holds them all.
 use Prim.Native.Nat.{ℕ, zero, suc, _+_, _*_, _≤_}
 use native.Mathlib.Omega.{arith}
-use mathlib.Core.Path.{_≡_, refl, sym, ap, _∙_}
+use mathlib.Core.Path.{_≡_, sym, ap, _∙_}
 use mathlib.Core.Bool.{Bool, true, false, cond}
 use mathlib.Core.List.{List, [], _∷_, _++_, map}
-use lib.ListN.{length, length-append, length-map}
+use lib.ListN.{length, length-append}
 use Rattle.definition.specs.Session.{Pass, Session, isNone}
 use Rattle.definition.specs.Verdict.{fine}
 use Rattle.definition.specs.Attachments.{Attached, divergentOf, depthStencilPart, resolvePart, slotPart, slotParts, attachments}
-use Rattle.definition.specs.Pass.{attachmentReply, depthReadOnly, stencilReadOnly, ofFirst, refusal, acceptance}
+use Rattle.definition.specs.Pass.{attachmentReply, depthReadOnly, stencilReadOnly, ofFirst, acceptance}
 use Rattle.definition.specs.declared.Slot.{Slot}
 use Rattle.definition.specs.declared.Seen.{Seen}
-use Rattle.definition.specs.declared.Verdict.{Verdict}
-use Rattle.lists.specs.Records.{records}
-use Rattle.records.specs.Lent.{surfaces}
+use Rattle.definition.specs.declared.Surface.{Surface}
 use Rattle.memory_init.specs.declared.Counts.{Counts}
 use Rattle.replies.specs.declared.Attachments.{Attachments}
 use Rattle.replies.specs.Records.{listed}
-use Rattle.replies.proofs.Records.{take-padded}
-use Rattle.render.specs.Outcome.{replyIn, refusedOutcome, acceptedOutcome}
+use Rattle.render.specs.Outcome.{replied, acceptedOutcome}
 
 -- ── at most seventeen
 
@@ -55,22 +52,17 @@ pub attachments-listed : (S : Session) (p : Pass) (r : Attachments) (n : ℕ) �
 unfolding attachments
 attachments-listed S p r n e h = h ∙ ap (λ (q : ℕ). listed (map (attachmentReply S) (depthStencilPart S p ++ slotParts S p q))) e
 
-pub reply-refused : (v : Verdict) (n : Counts) (c : List ℕ) → replyIn (refusedOutcome v n .reply) c ≡ refusal v
-unfolding records
-reply-refused v n c = refl
-
-pub reply-accepted : (S : Session) (xs : List Attached) (seen : Seen) (n : Counts) (c : List ℕ) → length xs ≤ 17
-    → replyIn (acceptedOutcome S xs seen n .reply) c ≡ acceptance S seen xs (surfaces (n .clears) c)
-reply-accepted S xs seen n c h =
-    let most : length (map (attachmentReply S) xs) ≤ 17 = omega (arith, length-map xs (attachmentReply S)) in
-    λ i. record {
-      verdict = fine;
-      width = seen .width;
-      height = seen .height;
-      samples = seen .samples;
-      depthReadOnly = ofFirst false depthReadOnly xs;
-      stencilReadOnly = ofFirst false stencilReadOnly xs;
-      attachments = take-padded 17 (map (attachmentReply S) xs) most i;
-      divergent = ofFirst 0 divergentOf xs;
-      clears = surfaces (n .clears) c;
-    }
+-- So many clears are returned as the list of clears has.
+pub reply-accepted : (S : Session) (xs : List Attached) (seen : Seen) (n : Counts) (clears : List Surface) → length clears ≡ n .clears
+    → acceptedOutcome S xs seen n .reply ≡ replied (acceptance S seen xs clears)
+reply-accepted S xs seen n clears h = λ i. record {
+  verdict = fine;
+  width = seen .width;
+  height = seen .height;
+  samples = seen .samples;
+  «is_depth_read_only» = ofFirst false depthReadOnly xs;
+  «is_stencil_read_only» = ofFirst false stencilReadOnly xs;
+  divergent = ofFirst 0 divergentOf xs;
+  attachments = listed (map (attachmentReply S) xs);
+  clears = sym h i;
+}

@@ -2,53 +2,38 @@
 use Prim.Native.Nat.{ℕ, _≤_}
 use mathlib.Core.Path.{_≡_}
 use mathlib.Core.Bool.{false}
-use mathlib.Core.List.{List, [], map}
-use lib.ListN.{take}
-use Rattle.definition.specs.Sizes.{maxDiscards, maxActions, maxClears}
+use mathlib.Core.List.{List, map}
+use lib.ListN.{length}
+use Rattle.definition.specs.Sizes.{maxClears}
 use Rattle.definition.specs.Session.{Pass, Session}
 use Rattle.definition.specs.Verdict.{fine, isFine}
-use Rattle.definition.specs.MemoryInit.{Lists}
 use Rattle.definition.specs.Attachments.{Attached, divergentOf, attachAll, attachments}
-use Rattle.definition.specs.Pass.{Reply, attachmentReply, depthReadOnly, stencilReadOnly, ofFirst, acceptance, newPass, checkPass}
+use Rattle.definition.specs.Pass.{Reply, attachmentReply, depthReadOnly, stencilReadOnly, ofFirst, refusal, acceptance, newPass, checkPass}
 use Rattle.definition.specs.declared.Seen.{Seen}
 use Rattle.definition.specs.declared.Verdict.{Verdict}
-use Rattle.records.specs.Lent.{surfaces}
 use Rattle.memory_init.specs.declared.Counts.{Counts}
-use Rattle.memory_init.specs.Lent.{held, Spared}
+use Rattle.memory_init.specs.Lent.{held, Within, Spared}
 use Rattle.replies.specs.Records.{listed}
 use Rattle.render.specs.declared.PassReply.{PassReply}
 use Rattle.render.specs.declared.PassOutcome.{PassOutcome}
 
--- A reply, with the list that the clears stand in.
-abbrev pub replyIn : PassReply → List ℕ → Reply
-replyIn r c = record {
+-- A reply of the definition as the struct that is handed back: its attachments in seventeen records, and how many clears it returns.
+abbrev pub replied : Reply → PassReply
+replied r = record {
   verdict = r .verdict;
   width = r .width;
   height = r .height;
   samples = r .samples;
-  depthReadOnly = r .«is_depth_read_only»;
-  stencilReadOnly = r .«is_stencil_read_only»;
-  attachments = take (r .attachments .count) (r .attachments .records);
+  «is_depth_read_only» = r .depthReadOnly;
+  «is_stencil_read_only» = r .stencilReadOnly;
   divergent = r .divergent;
-  clears = surfaces (r .clears) c;
+  attachments = listed (r .attachments);
+  clears = length (r .clears);
 }
 
 -- Refused as v: nothing is replied, and the lists keep their entries.
 abbrev pub refusedOutcome : Verdict → Counts → PassOutcome
-refusedOutcome v n = record {
-  reply = record {
-    verdict = v;
-    width = 0;
-    height = 0;
-    samples = 0;
-    «is_depth_read_only» = false;
-    «is_stencil_read_only» = false;
-    divergent = 0;
-    attachments = listed [];
-    clears = 0;
-  };
-  counts = n;
-}
+refusedOutcome v n = record { reply = replied (refusal v); counts = n }
 
 -- Accepted, with the attachments xs.
 abbrev pub acceptedOutcome : Session → List Attached → Seen → Counts → PassOutcome
@@ -67,17 +52,16 @@ acceptedOutcome S xs seen n = record {
   counts = n;
 }
 
--- The counts are those of lent lists: at most 64 discards, 512 actions and 80 clears.
-pub record Within (n : Counts) : Type 0 where
-  pub discards : n .discards ≤ maxDiscards
-  pub actions : n .actions ≤ maxActions
-  pub clears : n .clears ≤ maxClears
+-- Every attachment has a record, and the clears fit their list.
+pub record Whole (r : PassReply) : Type 0 where
+  pub attachments : r .attachments .count ≤ 17
+  pub clears : r .clears ≤ maxClears
 
 -- What an accepted pass leaves: the definition's reply and lists; numbers past the lists' ends stay.
 pub record Accepted (S : Session) (xs : List Attached) (seen : Seen) (n : Counts) (r : PassOutcome) (d d′ a a′ c c′ : List ℕ) : Type 0 where
-  pub reply : replyIn (r .reply) c′ ≡ acceptance S seen xs (attachAll xs (newPass (held n d a c)) .clears)
+  pub reply : r .reply ≡ replied (acceptance S seen xs (attachAll xs (newPass (held n d a c)) .clears))
   pub lists : held (r .counts) d′ a′ c′ ≡ attachAll xs (newPass (held n d a c))
-  pub verdict : r .reply .verdict ≡ fine
+  pub whole : Whole (r .reply)
   pub spared : Spared (r .counts) d d′ a a′ c c′
   pub within : Within (r .counts)
 
@@ -90,8 +74,9 @@ pub record Untouched (n r : Counts) (d d′ a a′ c c′ : List ℕ) : Type 0 w
 
 -- What a check leaves: the reply and the lists are the definition's, refused or not.
 pub record Checked (S : Session) (p : Pass) (n : Counts) (r : PassOutcome) (d d′ a a′ c c′ : List ℕ) : Type 0 where
-  pub reply : replyIn (r .reply) c′ ≡ checkPass S p (held n d a c) .reply
+  pub reply : r .reply ≡ replied (checkPass S p (held n d a c) .reply)
   pub lists : held (r .counts) d′ a′ c′ ≡ checkPass S p (held n d a c) .lists
   pub refused : isFine (r .reply .verdict) ≡ false → Untouched n (r .counts) d d′ a a′ c c′
   pub spared : Spared (r .counts) d d′ a a′ c c′
   pub within : Within n → Within (r .counts)
+  pub whole : Whole (r .reply)

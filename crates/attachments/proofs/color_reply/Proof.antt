@@ -7,15 +7,17 @@ use Rattle.attachments.proofs.color_reply.Statement.{statement}
 use Rattle.attachments.proofs.color_reply.Tie as tie
 
 returns : tie.Need-returns
-returns c = λ S k. record {
-  view = c .before .before .before .args .c .view;
-  usage = 1;
-  ops = (c .before .hal-ops .ensures ∙ ap opsBits (c .before .before .ops-of .ensures)) k;
-  «stencil_ops» = 0;
-  color = (c .clear-value .ensures ∙ ap (λ o. clearValue black (o .load)) (c .before .before .ops-of .ensures)) k;
-  depth = zero32;
-  stencil = 0;
-}
+returns c =
+    let ops = c .before .before in
+    λ S k. record {
+      view = ops .before .args .c .view;
+      usage = 1;
+      ops = (c .before .hal-ops .ensures ∙ ap opsBits (ops .ops-of .ensures)) k;
+      «stencil_ops» = 0;
+      color = (c .clear-value .ensures ∙ ap (λ o. clearValue black (o .load)) (ops .ops-of .ensures)) k;
+      depth = zero32;
+      stencil = 0;
+    }
 
 pub color-reply-spec : {M : Type 1} → statement M
 color-reply-spec =

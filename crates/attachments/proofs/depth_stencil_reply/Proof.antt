@@ -5,8 +5,8 @@ use Rattle.attachments.proofs.depth_stencil_reply.Tie as tie
 
 returns : tie.Need-returns
 returns c =
-    let c4 = c .before .before .before .before in
-    simp (c .clear-value2 .ensures, c .before .clear-value .ensures, c .before .before .black .ensures, c .before .before .before .hal-ops2 .ensures, c4 .hal-ops .ensures)
+    let ops = c .before .before .before in
+    simp (c .clear-value2 .ensures, c .before .clear-value .ensures, c .before .before .black .ensures, ops .hal-ops2 .ensures, ops .before .hal-ops .ensures)
 
 pub depth-stencil-reply-spec : {M : Type 1} → statement M
 depth-stencil-reply-spec =

@@ -5,22 +5,13 @@ use Rattle.plan.proofs.by_depth.Tie as tie
 
 returns : tie.Need-returns
 returns c =
-    let c4 = c .before .before .before .before in
-    let c5 = c4 .before in
-    let c6 = c5 .before in
-    let c7 = c6 .before in
-    let c8 = c7 .before in
-    let c9 = c8 .before in
-    simp (c .stores2 .ensures, c .before .store-op2 .ensures, c .before .before .stores .ensures, c .before .before .before .store-op .ensures, c4 .ignores2 .ensures, c5 .ignores .ensures, c6 .loads2 .ensures, c7 .loads .ensures, c8 .load-op2 .ensures, c9 .load-op .ensures)
+    let c3 = c .before .before .before in
+    simp (c .stores2 .ensures, c .before .stores .ensures, c .before .before .ignores2 .ensures, c3 .ignores .ensures, c3 .before .loads2 .ensures, c3 .before .before .loads .ensures)
 
 pub by-depth-spec : {M : Type 1} → statement M
 by-depth-spec =
     tie.close
     (tie.spec
-    (λ c κs. search needs)
-    (λ c κs. search needs)
-    (λ c κs. search needs)
-    (λ c κs. search needs)
     (λ c κs. search needs)
     (λ c κs. search needs)
     (λ c κs. search needs)

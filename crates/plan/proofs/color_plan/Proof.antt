@@ -1,12 +1,12 @@
--- What each call promises, put together as the definition puts it together.
+-- The plan does not ask for the value of a Clear.
 use borrow.Author.Needs.{needs}
 use Rattle.channel.specs.Color.{opsIn}
-use Rattle.plan.proofs.DepthStencil.{regular}
+use Rattle.plan.proofs.DepthStencil.{regular-of}
 use Rattle.plan.proofs.color_plan.Statement.{statement}
 use Rattle.plan.proofs.color_plan.Tie as tie
 
 returns : tie.Need-returns
-returns c = regular (c .init-actions .result) (opsIn (c .before .before .before .args .ops)) _ _ (c .before .before .loads .ensures) (c .before .stores .ensures) (c .init-actions .ensures)
+returns c = regular-of (c .regular-plan .result) (opsIn (c .before .before .args .ops)) (c .before .operations .ensures) (c .regular-plan .ensures)
 
 pub color-plan-spec : {M : Type 1} → statement M
-color-plan-spec = tie.close (tie.spec (λ c κs. search needs) (λ c κs. search needs) (λ c κs. search needs) returns)
+color-plan-spec = tie.close (tie.spec (λ c κs. search needs) (λ c κs. search needs) returns)

@@ -8,22 +8,41 @@ use Rattle.plan.proofs.depth_stencil_plan.Statement.{statement}
 use Rattle.plan.proofs.depth_stencil_plan.Tie as tie
 
 returns : tie.Need-returns
-returns c = depth-decides (c .depth-plan .result) _ _ (De.opsIn (c .before .before .before .args .depth)) (St.opsIn (c .before .before .before .args .stencil)) (sym (c .before .before .by-depth .ensures) ∙ c .before .if1 .taken) (c .depth-plan .ensures)
+returns c =
+    let by = c .before .before in
+    let s = by .before in
+    let d = s .before in
+    let depth = De.opsIn (d .before .args .depth) in
+    let stencil = St.opsIn (d .before .args .stencil) in
+    depth-decides (c .regular-plan .result) _ _ depth stencil (d .operations .ensures) (s .operations2 .ensures)
+    (sym (by .by-depth .ensures) ∙ c .before .if1 .taken) (c .regular-plan .ensures)
 
 returns-2 : tie.Need-returns-2
 returns-2 c =
-    let c4 = c .before .before .before .before in
-    diverge (c .diverged-plan .result) _ _ (De.opsIn (c4 .args .depth)) (St.opsIn (c4 .args .stencil)) (sym (c .before .before .before .by-depth .ensures) ∙ c .before .before .if1 .left) (c .before .if2 .taken) (c .diverged-plan .ensures)
+    let by = c .before .before .before in
+    let s = by .before in
+    let d = s .before in
+    let depth = De.opsIn (d .before .args .depth) in
+    let stencil = St.opsIn (d .before .args .stencil) in
+    diverge (c .diverged-plan .result) _ _ depth stencil (d .operations .ensures) (s .operations2 .ensures)
+    (sym (by .by-depth .ensures) ∙ c .before .before .if1 .left) (c .before .if2 .taken) (c .diverged-plan .ensures)
 
 returns-3 : tie.Need-returns-3
 returns-3 c =
-    let c4 = c .before .before .before .before in
-    stencil-decides (c .stencil-plan .result) _ _ (De.opsIn (c4 .args .depth)) (St.opsIn (c4 .args .stencil)) (sym (c .before .before .before .by-depth .ensures) ∙ c .before .before .if1 .left) (c .before .if2 .left) (c .stencil-plan .ensures)
+    let by = c .before .before .before in
+    let s = by .before in
+    let d = s .before in
+    let depth = De.opsIn (d .before .args .depth) in
+    let stencil = St.opsIn (d .before .args .stencil) in
+    stencil-decides (c .regular-plan2 .result) _ _ depth stencil (d .operations .ensures) (s .operations2 .ensures)
+    (sym (by .by-depth .ensures) ∙ c .before .before .if1 .left) (c .before .if2 .left) (c .regular-plan2 .ensures)
 
 pub depth-stencil-plan-spec : {M : Type 1} → statement M
 depth-stencil-plan-spec =
     tie.close
     (tie.spec
+    (λ c κs. search needs)
+    (λ c κs. search needs)
     (λ c κs. search needs)
     (λ c κs. search needs)
     returns
