@@ -3,9 +3,8 @@
  * surfaces must be cleared first.
  *
  * Link target/staticlib/libdesk.a, which `rt staticlib desk` writes (x86-64 Linux). It needs nothing
- * beside it, allocates nothing, keeps nothing between calls and prints nothing.
- * The library has deskcheck_session_refusal and deskcheck_submit. deskcheck_pass and deskcheck_session
- * are declared here, so that callers can be written, and are not in the library before they are proved.
+ * beside it, allocates nothing, keeps nothing between calls and prints nothing. It exports the four
+ * functions below, each proved against its contract in crates/desk.
  *
  * What holds of every function:
  *
@@ -155,9 +154,8 @@ uint32_t deskcheck_session_refusal(const uint8_t *session, size_t session_len);
 
 /*
  * Checks pass number `pass`. An accepted pass replaces the clears by those that come before it,
- * which reply.clears counts, and leaves discards and actions as they are after it. The places that
- * discards left, from the new count up to the greater of both, may hold anything; every other byte
- * past the records stays.
+ * which reply.clears counts, and leaves discards and actions as they are after it. In each of the
+ * three lists every byte past the records of the new count stays, also where a discard left.
  */
 struct deskcheck_reply deskcheck_pass(const uint8_t *session, size_t session_len, uint32_t pass,
                                       uint8_t *discards, size_t discards_len,
@@ -167,8 +165,8 @@ struct deskcheck_reply deskcheck_pass(const uint8_t *session, size_t session_len
 
 /*
  * Submits the open buffer, to be called after each pass that ends one, refused or not: the actions
- * run in order, then the discards mark their surfaces empty. Both lists are then empty (count 0);
- * the clears stay. 0, or 1 to 4, or 6.
+ * run in order, then the discards mark their surfaces empty. Both lists are then empty (count 0, every
+ * byte behind it stays); the clears stay. 0, or 1 to 4, or 6.
  */
 uint32_t deskcheck_submit(const uint8_t *session, size_t session_len,
                           uint8_t *discards, size_t discards_len,

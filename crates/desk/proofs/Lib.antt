@@ -1,2 +1,3 @@
 -- The root of this crate's laws.
-pub mod Lent
+pub mod Calls
+pub mod Passed

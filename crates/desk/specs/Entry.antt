@@ -1,14 +1,17 @@
--- A call at an entry point: a short buffer is 6 first of all, then the session's own refusal, then an unlawful kind is 6, then the call.
+-- A call at an entry point: a short buffer is 6 first of all, then the session's own refusal, then the call.
 use Prim.Native.Nat.{ℕ}
 use mathlib.Core.List.{List}
 use mathlib.Core.Bool.{cond}
+use mathlib.Core.Path.{_≡_}
 use lib.Dec.{eqb}
+use lib.ListN.{drop}
 use Rattle.definition.specs.Session.{session}
 use Rattle.definition.specs.Readable.{sessionRefusal}
 use Rattle.definition.specs.Verdict.{nowhere, refusedAt}
 use Rattle.definition.specs.Pass.{refusal}
 use Rattle.definition.specs.Calls.{State, Call, pass, submit, Answer, checked, submitted, Step, call}
-use Rattle.desk.specs.Lent.{stateIn, kindsIn, short}
+use Rattle.lent.specs.Packed.{listBytes, countIn}
+use Rattle.lent_state.specs.Lent.{stateIn, short}
 
 -- Refused as n: everything stays as found.
 abbrev pub refusedCall : ℕ → Call → State → Step
@@ -20,13 +23,13 @@ abbrev pub numberIn : Answer → ℕ
 numberIn (checked r) = r .verdict .number
 numberIn (submitted n status) = n
 
--- Where the buffers are long enough and the session is readable.
-abbrev pub lentCall : List ℕ → Call → List ℕ → State → Step
-lentCall s k a σ = cond (kindsIn a) (call (session s) k σ) (refusedCall 6 k σ)
-
 -- The session's bytes, the call, and what is lent: discards, actions, clears, status bytes.
 unfoldable pub entry : List ℕ → Call → List ℕ → List ℕ → List ℕ → List ℕ → Step
 entry s k d a c status =
     cond (short d a c status) (refusedCall 6 k (stateIn d a c status))
-    (cond (eqb (sessionRefusal s) 0) (lentCall s k a (stateIn d a c status))
+    (cond (eqb (sessionRefusal s) 0) (call (session s) k (stateIn d a c status))
     (refusedCall (sessionRefusal s) k (stateIn d a c status)))
+
+-- The bytes past the records of a list stay.
+abbrev pub RestStays : ℕ → List ℕ → List ℕ → Type 0
+RestStays k b b′ = drop (listBytes k (countIn b′)) b′ ≡ drop (listBytes k (countIn b′)) b

@@ -1,3 +1,4 @@
 -- The root of what this crate means.
-pub mod Lent
 pub mod Entry
+pub mod Reply
+pub mod Whole

@@ -1,21 +1,32 @@
 // The entry points of the desk check, for callers in C and Rust. Each tests its own input and has no `requires`; its contract says
 // by equations what the reply means and what the lent lists and status bytes then hold, refused or not.
-pub mod packed;
+pub mod reply;
 
-use lent_right::lent_right;
-use memory_init::Counts;
-use packed::unpack;
+use lent_state::is_short;
+use lent_state::pack_lent;
+use lent_state::unpack_lent;
 use readable::session_refusal;
+use render::check_pass;
+use reply::Reply;
+use reply::numbered;
+use reply::refused_reply;
+use rows::ROWS_BYTES;
+use rows::session_rows;
+use session::pass_count;
 use submission::submit;
+use verdict::is_fine;
 use wire::put_u32;
 ghost use mathlib.Core.Path.{_≡_};
 ghost use mathlib.Core.Bool.{false};
 ghost use mathlib.Core.Logic.{_≢_};
 ghost use lib.ListN.{drop};
 ghost use Rattle.definition.specs.Readable.{sessionRefusal};
-ghost use Rattle.definition.specs.Calls.{submit};
-ghost use Rattle.desk.specs.Lent.{stateIn, short};
-ghost use Rattle.desk.specs.Entry.{numberIn, lentCall, entry};
+ghost use Rattle.definition.specs.Session as Se;
+ghost use Rattle.definition.specs.Calls.{pass, submit, call};
+ghost use Rattle.lent_state.specs.Lent.{stateIn, short};
+ghost use Rattle.desk.specs.Entry.{numberIn, entry, RestStays};
+ghost use Rattle.desk.specs.Reply.{answered};
+ghost use Rattle.desk.specs.Whole.{wholeNumber, RowsOf};
 
 // The session's refusal: 0, or 1 to 4.
 #[no_mangle]
@@ -23,13 +34,6 @@ pub extern "C" fn deskcheck_session_refusal(session: &[u8]) -> u32
     ensures { λ r. ⌜ r ≡ sessionRefusal (now (session .entry)) ⌝ }
 {
     session_refusal(session)
-}
-
-// A lent buffer is too short.
-fn is_short(discards: &[u8], actions: &[u8], clears: &[u8], status: &[u8]) -> bool
-    ensures { λ r. ⌜ r ≡ short (now (discards .entry)) (now (actions .entry)) (now (clears .entry)) (now (status .entry)) ⌝ }
-{
-    (discards.len() < 772) | (actions.len() < 12292) | (clears.len() < 964) | (status.len() < 4096)
 }
 
 // A submission, where the buffers are long enough and the session is readable.
@@ -41,22 +45,28 @@ fn submit_lent(
     status: &mut [u8],
 ) -> u32
     requires { ⌜ (short (now discards) (now actions) (now clears) (now status) ≡ false) × (sessionRefusal (now session) ≡ 0) ⌝ }
-    ensures { λ r. ⌜ r ≡ numberIn (lentCall (now (session .entry)) submit (now (actions .entry)) (stateIn (now (discards .entry)) (now (actions .entry)) (now (clears .entry)) (now (status .entry))) .answer) ⌝ }
-    ensures { λ _. ⌜ stateIn (now (discards .exit)) (now (actions .exit)) (now (clears .entry)) (now (status .exit)) ≡ lentCall (now (session .entry)) submit (now (actions .entry)) (stateIn (now (discards .entry)) (now (actions .entry)) (now (clears .entry)) (now (status .entry))) .state ⌝ }
+    ensures { λ r. ⌜ r ≡ numberIn (call (Se.session (now (session .entry))) submit (stateIn (now (discards .entry)) (now (actions .entry)) (now (clears .entry)) (now (status .entry))) .answer) ⌝ }
+    ensures { λ _. ⌜ stateIn (now (discards .exit)) (now (actions .exit)) (now (clears .entry)) (now (status .exit)) ≡ call (Se.session (now (session .entry))) submit (stateIn (now (discards .entry)) (now (actions .entry)) (now (clears .entry)) (now (status .entry))) .state ⌝ }
     ensures { λ _. ⌜ (drop 4 (now (discards .exit)) ≡ drop 4 (now (discards .entry))) × (drop 4 (now (actions .exit)) ≡ drop 4 (now (actions .entry))) ⌝ }
     ensures { λ r. ⌜ (r ≢ 0 → (now (discards .exit) ≡ now (discards .entry)) × ((now (actions .exit) ≡ now (actions .entry)) × (now (status .exit) ≡ now (status .entry)))) ⌝ }
 {
     let mut d: [u32; 192] = [0; 192];
     let mut a: [u32; 3072] = [0; 3072];
     let mut c: [u32; 240] = [0; 240];
-    let n = Counts {
-        discards: unpack(discards, 3, 64, &mut d),
-        actions: unpack(actions, 6, 512, &mut a),
-        clears: unpack(clears, 3, 80, &mut c),
-    };
-    if !lent_right(session, &d, &a, &c, n, status) {
+    let lent = unpack_lent(
+        session,
+        discards,
+        actions,
+        clears,
+        status,
+        &mut d,
+        &mut a,
+        &mut c,
+    );
+    if !lent.right {
         return 6;
     }
+    let n = lent.counts;
     submit(session, &d, &a, n, status);
     put_u32(discards, 0, 0);
     put_u32(actions, 0, 0);
@@ -86,4 +96,95 @@ pub extern "C" fn deskcheck_submit(
         return refusal;
     }
     submit_lent(session, discards, actions, clears, status)
+}
+
+// A pass check, where the buffers are long enough and the session is readable: judged on copies, and written back if it is accepted.
+fn pass_lent(
+    session: &[u8],
+    i: u32,
+    discards: &mut [u8],
+    actions: &mut [u8],
+    clears: &mut [u8],
+    status: &[u8],
+) -> Reply
+    requires { ⌜ (short (now discards) (now actions) (now clears) (now status) ≡ false) × (sessionRefusal (now session) ≡ 0) ⌝ }
+    ensures { λ r. ⌜ r ≡ answered (call (Se.session (now (session .entry))) (pass i) (stateIn (now (discards .entry)) (now (actions .entry)) (now (clears .entry)) (now (status .entry))) .answer) ⌝ }
+    ensures { λ _. ⌜ stateIn (now (discards .exit)) (now (actions .exit)) (now (clears .exit)) (now (status .entry)) ≡ call (Se.session (now (session .entry))) (pass i) (stateIn (now (discards .entry)) (now (actions .entry)) (now (clears .entry)) (now (status .entry))) .state ⌝ }
+    ensures { λ _. ⌜ (RestStays 3 (now (discards .entry)) (now (discards .exit))) × ((RestStays 6 (now (actions .entry)) (now (actions .exit))) × (RestStays 3 (now (clears .entry)) (now (clears .exit)))) ⌝ }
+    ensures { λ r. ⌜ (r .number ≢ 0 → (now (discards .exit) ≡ now (discards .entry)) × ((now (actions .exit) ≡ now (actions .entry)) × (now (clears .exit) ≡ now (clears .entry)))) ⌝ }
+{
+    let mut d: [u32; 192] = [0; 192];
+    let mut a: [u32; 3072] = [0; 3072];
+    let mut c: [u32; 240] = [0; 240];
+    let lent = unpack_lent(
+        session,
+        discards,
+        actions,
+        clears,
+        status,
+        &mut d,
+        &mut a,
+        &mut c,
+    );
+    if !lent.right {
+        return refused_reply(6);
+    }
+    if i >= pass_count(session) {
+        return refused_reply(5);
+    }
+    let n = lent.counts;
+    let outcome = check_pass(session, i, &mut d, &mut a, &mut c, n);
+    let reply = outcome.reply;
+    let verdict = reply.verdict;
+    if !is_fine(verdict) {
+        return numbered(reply);
+    }
+    let m = outcome.counts;
+    pack_lent(discards, actions, clears, m, &d, &a, &c);
+    numbered(reply)
+}
+
+// The check of pass number i: 6 for a buffer that is too short, 1 to 4 for the session, 6 for what is lent, 5 and 10 to 50 for the pass.
+// An accepted pass replaces the clears and leaves discards and actions as they are after it; a refusal leaves every byte.
+#[no_mangle]
+pub extern "C" fn deskcheck_pass(
+    session: &[u8],
+    i: u32,
+    discards: &mut [u8],
+    actions: &mut [u8],
+    clears: &mut [u8],
+    status: &[u8],
+) -> Reply
+    ensures { λ r. ⌜ r ≡ answered (entry (now (session .entry)) (pass i) (now (discards .entry)) (now (actions .entry)) (now (clears .entry)) (now (status .entry)) .answer) ⌝ }
+    ensures { λ _. ⌜ stateIn (now (discards .exit)) (now (actions .exit)) (now (clears .exit)) (now (status .entry)) ≡ entry (now (session .entry)) (pass i) (now (discards .entry)) (now (actions .entry)) (now (clears .entry)) (now (status .entry)) .state ⌝ }
+    ensures { λ _. ⌜ (RestStays 3 (now (discards .entry)) (now (discards .exit))) × ((RestStays 6 (now (actions .entry)) (now (actions .exit))) × (RestStays 3 (now (clears .entry)) (now (clears .exit)))) ⌝ }
+    ensures { λ r. ⌜ (r .number ≢ 0 → (now (discards .exit) ≡ now (discards .entry)) × ((now (actions .exit) ≡ now (actions .entry)) × (now (clears .exit) ≡ now (clears .entry)))) ⌝ }
+{
+    if is_short(discards, actions, clears, status) {
+        return refused_reply(6);
+    }
+    let refusal = session_refusal(session);
+    if refusal != 0 {
+        return refused_reply(refusal);
+    }
+    pass_lent(session, i, discards, actions, clears, status)
+}
+
+// The whole session from fresh lists: 6 for rows that are too short, 1 to 4 for the session, or 0. Then every pass has its row, and the
+// bytes past the rows stay; a refusal leaves every byte.
+#[no_mangle]
+pub extern "C" fn deskcheck_session(session: &[u8], rows: &mut [u8]) -> u32
+    ensures { λ r. ⌜ r ≡ wholeNumber (now (session .entry)) (now (rows .entry)) ⌝ }
+    ensures { λ r. ⌜ (r ≡ 0 → RowsOf (now (session .entry)) (now (rows .entry)) (now (rows .exit))) ⌝ }
+    ensures { λ r. ⌜ (r ≢ 0 → now (rows .exit) ≡ now (rows .entry)) ⌝ }
+{
+    if rows.len() < ROWS_BYTES {
+        return 6;
+    }
+    let refusal = session_refusal(session);
+    if refusal != 0 {
+        return refusal;
+    }
+    session_rows(session, rows);
+    0
 }

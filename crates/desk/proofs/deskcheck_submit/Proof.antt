@@ -3,7 +3,7 @@ use mathlib.Core.Path.{_≡_, refl, sym, ap, _∙_}
 use borrow.Author.Needs.{needs}
 use Rattle.definition.specs.Calls.{submit}
 use Rattle.desk.specs.Entry.{numberIn}
-use Rattle.desk.proofs.Lent.{entry-short, entry-refused, entry-lent}
+use Rattle.desk.proofs.Calls.{entry-short, entry-refused, entry-lent}
 use Rattle.desk.proofs.deskcheck_submit.Statement.{statement}
 use Rattle.desk.proofs.deskcheck_submit.Tie as tie
 

@@ -1,0 +1,62 @@
+-- A call at an entry point is one clause of its definition, and what is packed is what the numbers hold.
+use mathlib.Core.Path.{_≡_, sym, ap, _∙_}
+use mathlib.Core.Logic.{_≢_}
+use mathlib.Core.Bool.{true, false}
+use mathlib.Core.List.{List, []}
+use Prim.Native.Nat.{ℕ, _*_, _≤_}
+use native.Mathlib.Omega.{arith}
+use lib.Dec.{eqb}
+use borrow.Author.Tests.{eq-eqb, ne-eqb}
+use lib.ListN.{length}
+use Rattle.definition.specs.Session.{session}
+use Rattle.definition.specs.Readable.{sessionRefusal}
+use Rattle.definition.specs.Calls.{Call, noEntries, lentRight, called, notLent, call}
+use Rattle.definition.specs.Program.{lines, deskcheck}
+use Rattle.laws.proofs.Tests.{cond-on, cond-off}
+use Rattle.lists.specs.Records.{records}
+use Rattle.records.specs.Lent.{surfaces, actions}
+use Rattle.wire.specs.Writing.{putNumber}
+use Rattle.wire.proofs.Writing.{put-read}
+use Rattle.lent.specs.Numbers.{numbersAt}
+use Rattle.lent.specs.Packed.{countIn}
+use Rattle.lent_state.specs.Lent.{surfacesIn, actionsIn, stateIn, short}
+use Rattle.lent_state.specs.Unpacked.{rightIn}
+use Rattle.desk.specs.Entry.{refusedCall, entry}
+
+pub lent-accepts : (s : List ℕ) (k : Call) (d a c status : List ℕ) → rightIn s d a c status ≡ true → call (session s) k (stateIn d a c status) ≡ called (session s) k (stateIn d a c status)
+unfolding call
+lent-accepts s k d a c status h = cond-on (lentRight (session s) (stateIn d a c status)) _ _ h
+
+pub lent-refuses : (s : List ℕ) (k : Call) (d a c status : List ℕ) → rightIn s d a c status ≡ false → call (session s) k (stateIn d a c status) ≡ notLent k (stateIn d a c status)
+unfolding call
+lent-refuses s k d a c status h = cond-off (lentRight (session s) (stateIn d a c status)) _ _ h
+
+-- A count of 0 leaves no record.
+pub none-listed : (b : List ℕ) → 4 ≤ length b → (surfacesIn (putNumber 4 b 0 0) ≡ []) × (actionsIn (putNumber 4 b 0 0) ≡ [])
+unfolding records
+none-listed b h =
+    let e : countIn (putNumber 4 b 0 0) ≡ 0 = sym (put-read b 0 0 h (omega arith)) in
+    (ap (λ n. surfaces n (numbersAt (putNumber 4 b 0 0) 4 (3 * n))) e, ap (λ n. actions n (numbersAt (putNumber 4 b 0 0) 4 (6 * n))) e)
+
+-- ── a call at an entry point
+
+pub entry-short : (s : List ℕ) (k : Call) (d a c status : List ℕ) → short d a c status ≡ true → entry s k d a c status ≡ refusedCall 6 k (stateIn d a c status)
+unfolding entry
+entry-short s k d a c status h = cond-on (short d a c status) _ _ h
+
+pub entry-refused : (s : List ℕ) (k : Call) (d a c status : List ℕ) → short d a c status ≡ false → sessionRefusal s ≢ 0
+    → entry s k d a c status ≡ refusedCall (sessionRefusal s) k (stateIn d a c status)
+unfolding entry
+entry-refused s k d a c status h g = cond-off (short d a c status) _ _ h ∙ cond-off (eqb (sessionRefusal s) 0) _ _ (ne-eqb (sessionRefusal s) 0 g)
+
+pub entry-lent : (s : List ℕ) (k : Call) (d a c status : List ℕ) → short d a c status ≡ false → sessionRefusal s ≡ 0
+    → entry s k d a c status ≡ call (session s) k (stateIn d a c status)
+unfolding entry
+entry-lent s k d a c status h g = cond-off (short d a c status) _ _ h ∙ cond-on (eqb (sessionRefusal s) 0) _ _ (eq-eqb (sessionRefusal s) 0 g)
+
+-- ── the whole session
+
+-- What `deskcheck` says of a session that is read.
+pub deskcheck-read : (s : List ℕ) → sessionRefusal s ≡ 0 → deskcheck s ≡ lines (session s) 0 (session s .passCount) noEntries
+unfolding deskcheck
+deskcheck-read s h = cond-on (eqb (sessionRefusal s) 0) _ _ (eq-eqb (sessionRefusal s) 0 h)

@@ -1,0 +1,21 @@
+-- The whole session in one call.
+use Prim.Native.Nat.{ℕ, _*_}
+use mathlib.Core.Path.{_≡_}
+use mathlib.Core.Bool.{cond}
+use mathlib.Core.List.{List}
+use lib.Dec.{ltb}
+use lib.ListN.{length, drop}
+use Rattle.definition.specs.Sizes.{maxPasses}
+use Rattle.definition.specs.Session.{session}
+use Rattle.definition.specs.Readable.{sessionRefusal}
+use Rattle.definition.specs.Program.{deskcheck}
+use Rattle.rows.specs.Rows.{rowBytes, rowsIn}
+
+-- 6 for rows that are too short for every session, first of all; then the session's refusal.
+abbrev pub wholeNumber : List ℕ → List ℕ → ℕ
+wholeNumber s rows = cond (ltb (length rows) (rowBytes * maxPasses)) 6 (sessionRefusal s)
+
+-- The rows are what `deskcheck` says of the session; the bytes past them stay.
+pub record RowsOf (s b b′ : List ℕ) : Type 0 where
+  pub lines : rowsIn b′ (session s .passCount) ≡ deskcheck s
+  pub rest : drop (rowBytes * session s .passCount) b′ ≡ drop (rowBytes * session s .passCount) b

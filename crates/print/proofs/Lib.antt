@@ -1,0 +1,2 @@
+-- The root of this crate's laws.
+pub mod Printed

@@ -1,0 +1,37 @@
+-- Safe: at most a hundred passes, and each call keeps the buffers' lengths.
+use mathlib.Core.Path.{_≡_}
+use Prim.Native.Nat.{_-_}
+use lib.ListN.{length}
+use borrow.Author.Needs.{needs}
+use Rattle.replay.proofs.passes.Statement.{statement}
+use Rattle.replay.proofs.passes.Tie as tie
+
+abbrev Inv-loop : tie.InvT-loop
+Inv-loop list session rows discards₀ actions₀ clears₀ status₀ count q₀ k₀ discards actions clears status q k = (length discards ≡ length discards₀) × (length actions ≡ length actions₀) × (length clears ≡ length clears₀) × (length status ≡ length status₀)
+
+abbrev μ-loop : tie.MeasureT-loop
+μ-loop list session rows discards₀ actions₀ clears₀ status₀ count q₀ k₀ discards actions clears status q k = 100 - k
+
+pub passes-spec : {M : Type 1} → statement M
+passes-spec =
+    tie.close
+    (tie.spec
+    Inv-loop
+    μ-loop
+    (λ c κs. search needs)
+    (λ c. search needs)
+    (λ c. search needs)
+    (λ c. search needs)
+    (λ c. search needs)
+    (λ c. search needs)
+    (λ c. search needs)
+    (λ c. search needs)
+    (λ c κs. search needs)
+    (λ c. search needs)
+    (λ c. search needs)
+    (λ c. search needs)
+    (λ c. search needs)
+    (λ c. search needs)
+    (λ c. search needs)
+    (λ c. search needs)
+    (λ c. search needs))

@@ -1,0 +1,3 @@
+-- The root of this crate's laws.
+pub mod Text
+pub mod Decimal

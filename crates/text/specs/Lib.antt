@@ -1,0 +1,4 @@
+-- The root of what this crate means.
+pub mod Text
+pub mod Output
+pub mod Examples
