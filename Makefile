@@ -1,6 +1,6 @@
 # Two commands: `make run` builds deskcheck and runs it on an example, `make test` runs all tests.
-# Two long ones: `make differential` compares with the Rust, `make bench` measures against it.
-.PHONY: run test differential bench
+# Three long ones: `make differential` compares with the Rust, `make bench` measures against it, `make fuzz` fuzzes the C functions.
+.PHONY: run test differential bench fuzz
 
 run:
 	@bash tools/run.sh
@@ -13,3 +13,6 @@ differential:
 
 bench:
 	@bash tools/bench.sh
+
+fuzz:
+	@bash tools/fuzz.sh

@@ -1,6 +1,6 @@
 //! One call on guarded copies of lent buffers, and the comparison of two outcomes.
 
-use interface::{u32_at, Desk, Lists};
+use interface::{Desk, Lists};
 
 use crate::guard::{Guarded, Loan};
 
@@ -72,39 +72,23 @@ fn wrongly_changed(call: Call, number: u32, before: &Lists, after: &Lists) -> Op
     wrong.map(|(name, _, _)| *name)
 }
 
-/// Where two outcomes of the same call differ, if anywhere. After an accepted pass the places that
-/// discards left are free: bytes past the listed ones up to the greater of both counts.
-pub fn difference(before: &Lists, expected: &Outcome, got: &Outcome) -> Option<String> {
+/// Where two outcomes of the same call differ, if anywhere: in a word or in a byte that is lent.
+pub fn difference(expected: &Outcome, got: &Outcome) -> Option<String> {
     if expected.words != got.words {
         return Some(format!(
             "expected {:?}\ngot      {:?}\n",
             expected.words, got.words
         ));
     }
-    let mut lists = got.lists.clone();
-    if expected.number() == 0 && expected.words.len() > 1 {
-        forget_left_places(before, &expected.lists, &mut lists);
-    }
+    let (expected, got) = (&expected.lists, &got.lists);
     let parts = [
-        ("discards", &expected.lists.discards, &lists.discards),
-        ("actions", &expected.lists.actions, &lists.actions),
-        ("clears", &expected.lists.clears, &lists.clears),
-        ("status", &expected.lists.status, &lists.status),
+        ("discards", &expected.discards, &got.discards),
+        ("actions", &expected.actions, &got.actions),
+        ("clears", &expected.clears, &got.clears),
+        ("status", &expected.status, &got.status),
     ];
     let (name, expected, got) = parts.iter().find(|(_, a, b)| a != b)?;
     Some(first_byte(name, expected, got))
-}
-
-/// Bytes of a discard record.
-const RECORD: usize = 12;
-
-/// Takes the expected bytes where the interface leaves them free.
-fn forget_left_places(before: &Lists, expected: &Lists, got: &mut Lists) {
-    let end = |lists: &Lists| 4 + RECORD * u32_at(&lists.discards, 0) as usize;
-    let free = end(expected)..end(before).max(end(expected));
-    if free.end <= got.discards.len() {
-        got.discards[free.clone()].copy_from_slice(&expected.discards[free]);
-    }
 }
 
 /// The first byte at which two buffers differ.

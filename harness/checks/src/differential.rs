@@ -132,7 +132,7 @@ fn pass(desk: &dyn Desk, bytes: &[u8], row: &Judged, before: Lists) -> Result<Li
     };
     let call = Call::Pass(row.pass as u32);
     let got = make(desk, bytes, call, &before)?;
-    match difference(&before, &expected, &got) {
+    match difference(&expected, &got) {
         None => Ok(got.lists),
         Some(wrong) => Err(format!("pass {}\n{wrong}expected:\n{row}", row.pass)),
     }
@@ -150,7 +150,7 @@ fn submission(
         lists: after_submission(&before, status),
     };
     let got = make(desk, bytes, Call::Submit, &before)?;
-    match difference(&before, &expected, &got) {
+    match difference(&expected, &got) {
         None => Ok(got.lists),
         Some(wrong) => Err(format!("submission\n{wrong}")),
     }

@@ -3,6 +3,8 @@
 use std::fs;
 use std::path::{Path, PathBuf};
 
+use compare::examples::{files, name};
+
 /// A file or folder of the repository.
 pub fn repository(path: &str) -> PathBuf {
     Path::new(env!("CARGO_MANIFEST_DIR"))
@@ -12,25 +14,24 @@ pub fn repository(path: &str) -> PathBuf {
 
 /// Every example session by name.
 pub fn sessions() -> Vec<(String, Vec<u8>)> {
-    let entries = fs::read_dir(repository("examples")).expect("the folder examples");
-    let mut paths: Vec<PathBuf> = entries
-        .map(|entry| entry.expect("an entry").path())
-        .filter(|path| path.extension().is_some_and(|e| e == "session"))
-        .collect();
-    paths.sort();
-    paths.into_iter().map(named).collect()
+    files("session").iter().map(|path| named(path)).collect()
 }
 
 /// A file's name without its ending, and its bytes.
-fn named(path: PathBuf) -> (String, Vec<u8>) {
-    let name = path.file_stem().expect("a name").to_string_lossy();
-    let bytes = fs::read(&path).expect("a readable example");
-    (name.into_owned(), bytes)
+fn named(path: &Path) -> (String, Vec<u8>) {
+    let bytes = fs::read(path).expect("a readable example");
+    (name(path), bytes)
+}
+
+/// The file of the example that shows a number.
+pub fn file_of_number(number: u32) -> Option<PathBuf> {
+    let wanted = format!("refusal-{number}");
+    files("session").into_iter().find(|f| name(f) == wanted)
 }
 
 /// The example that shows a number.
 pub fn of_number(number: u32) -> Option<Vec<u8>> {
-    fs::read(repository(&format!("examples/refusal-{number}.session"))).ok()
+    file_of_number(number).map(|file| named(&file).1)
 }
 
 /// Every number that the code can answer: those of files, and 6.

@@ -87,7 +87,8 @@ fn canonical(bits: u64) -> u64 {
     }
 }
 
-/// What a pass leaves in the buffers: its lists and clears where it is accepted, else everything.
+/// What a pass leaves in the buffers: its lists and clears where it is accepted, and every byte past
+/// their records; else everything.
 pub fn after_pass(before: &Lists, row: &Judged) -> Lists {
     let mut after = before.clone();
     if row.reply.refusal == 0 {

@@ -159,7 +159,7 @@ fn answer(desk: &dyn Desk, input: &Input) -> Result<Outcome, String> {
 fn called(desk: &dyn Desk, input: &Input, call: Call) -> Result<Outcome, String> {
     let got = make(desk, &input.session, call, &input.lists)?;
     let expected = make(&Model, &input.session, call, &input.lists)?;
-    match difference(&input.lists, &expected, &got) {
+    match difference(&expected, &got) {
         None => Ok(got),
         Some(wrong) => Err(format!("{call:?}\n{wrong}")),
     }

@@ -91,7 +91,7 @@ fn one(
     let got = make(desk, bytes, call, lists)?;
     seen.calls += 1;
     *seen.by_number.entry(expected.number()).or_default() += 1;
-    match difference(lists, &expected, &got) {
+    match difference(&expected, &got) {
         None => Ok(()),
         Some(wrong) => Err(format!("{call:?}\n{wrong}")),
     }

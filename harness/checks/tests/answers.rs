@@ -9,7 +9,7 @@ use checks::reference::Model;
 
 /// The committed list.
 fn committed() -> Vec<u8> {
-    fs::read(repository("harness/answers/answers.bin")).unwrap()
+    fs::read(repository("crates/replay/stdin")).unwrap()
 }
 
 #[test]

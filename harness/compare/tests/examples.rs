@@ -5,22 +5,18 @@ use std::collections::BTreeSet;
 use std::fs;
 use std::path::{Path, PathBuf};
 
+use compare::examples::{entries, files, folder, folders, name};
 use compare::{compare_file, numbers_of_files, Counts};
 use sessions::text;
 
-/// The folder of the examples.
-fn folder() -> PathBuf {
-    Path::new(env!("CARGO_MANIFEST_DIR")).join("../../examples")
-}
-
-/// The names of the files with an ending, without it.
-fn names(ending: &str) -> BTreeSet<String> {
-    let entries = fs::read_dir(folder()).unwrap();
-    let paths = entries.map(|entry| entry.unwrap().path());
-    paths
-        .filter(|path| path.extension().is_some_and(|e| e == ending))
-        .map(|path| path.file_stem().unwrap().to_str().unwrap().to_string())
-        .collect()
+/// The binary of a text: `first` beside it, the others below `sessions` instead of `layers`.
+fn binary(text: &Path) -> PathBuf {
+    let inner = text.strip_prefix(folder()).unwrap();
+    let moved = match inner.strip_prefix("layers") {
+        Ok(below) => Path::new("sessions").join(below),
+        Err(_) => inner.to_path_buf(),
+    };
+    folder().join(moved).with_extension("session")
 }
 
 /// An example: its name, text and bytes.
@@ -31,12 +27,12 @@ struct Example {
 }
 
 fn examples() -> Vec<Example> {
-    let read = |name: String| Example {
-        text: fs::read_to_string(folder().join(format!("{name}.layer"))).unwrap(),
-        bytes: fs::read(folder().join(format!("{name}.session"))).unwrap(),
-        name,
+    let read = |text: &PathBuf| Example {
+        name: name(text),
+        text: fs::read_to_string(text).unwrap(),
+        bytes: fs::read(binary(text)).unwrap(),
     };
-    names("layer").into_iter().map(read).collect()
+    files("layer").iter().map(read).collect()
 }
 
 /// The lines that a text says `deskcheck` prints last.
@@ -45,11 +41,23 @@ fn expected(text: &str) -> Vec<&str> {
 }
 
 #[test]
-fn each_text_has_its_binary() {
-    assert_eq!(names("layer"), names("session"));
+fn each_text_has_its_binary_and_its_own_name() {
+    let texts = files("layer");
+    let made: Vec<PathBuf> = texts.iter().map(|text| binary(text)).collect();
+    assert_eq!(made, files("session"));
+    let names: BTreeSet<String> = texts.iter().map(|text| name(text)).collect();
+    assert_eq!(names.len(), texts.len(), "a name twice");
     for example in examples() {
         let made = text::to_bytes(&example.text).unwrap();
         assert!(made == example.bytes, "{} is out of date", example.name);
+    }
+}
+
+#[test]
+fn no_folder_has_more_than_two_dozen_entries() {
+    for folder in folders() {
+        let count = entries(&folder).len();
+        assert!(count <= 24, "{}: {count}", folder.display());
     }
 }
 
@@ -85,14 +93,16 @@ fn the_rust_agrees_on_each() {
             panic!("{}: {difference}", example.name);
         }
     }
-    assert_eq!(counts.files as usize, names("layer").len());
+    assert_eq!(counts.files as usize, files("layer").len());
 }
 
 #[test]
 fn each_number_has_an_example_that_ends_with_it() {
+    let all = examples();
     for number in numbers_of_files() {
-        let bytes = fs::read(folder().join(format!("refusal-{number}.session"))).unwrap();
-        let last = match (oracle::run(&bytes), model::run(&bytes)) {
+        let wanted = format!("refusal-{number}");
+        let bytes = &all.iter().find(|e| e.name == wanted).expect(&wanted).bytes;
+        let last = match (oracle::run(bytes), model::run(bytes)) {
             (Ok(rust), Ok(model)) => {
                 let last = |rows: &[sessions::reply::Judged]| rows.last().unwrap().reply.refusal;
                 assert_eq!(last(&rust), last(&model));

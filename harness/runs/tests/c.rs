@@ -3,7 +3,7 @@
 use std::path::PathBuf;
 use std::process::{Command, Output};
 
-use checks::examples::repository;
+use checks::examples::{file_of_number, repository};
 
 /// Runs a command; it must be there.
 fn output(command: &mut Command) -> Output {
@@ -39,7 +39,7 @@ fn the_example_prints_document_01s_lines() {
     let first = repository("examples/first.session");
     let lines = "0 0 17 17 4 4 1 0 1\n1 0 17 17 4 4 1 1 0\n";
     assert_eq!(printed(Command::new(&program).arg(first)), lines);
-    let refused = repository("examples/refusal-3.session");
+    let refused = file_of_number(3).unwrap();
     let done = output(Command::new(&program).arg(refused));
     assert_eq!(String::from_utf8_lossy(&done.stdout), "session 3\n");
     let missing = output(Command::new(&program).arg("no such file"));

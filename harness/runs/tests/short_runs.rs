@@ -48,7 +48,7 @@ fn fuzzed_inputs_keep_to_the_interface() {
 
 #[test]
 fn replayed_answers_agree() {
-    let bytes = fs::read(repository("harness/answers/answers.bin")).unwrap();
+    let bytes = fs::read(repository("crates/replay/stdin")).unwrap();
     let records = from_bytes(&bytes).unwrap();
     assert!(records.len() >= 500);
     for (number, record) in records.iter().enumerate() {

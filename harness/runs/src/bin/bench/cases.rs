@@ -185,8 +185,8 @@ fn passes_of(session: &Session) -> Pair {
     )
 }
 
-/// Single passes of each kind.
-pub fn single_passes() -> impl Iterator<Item = (String, Pair)> {
+/// A session for each kind of pass.
+fn kinds() -> impl Iterator<Item = (&'static str, Session)> {
     let kinds = [
         ("one colour, Clear, Store", by_passes(1)),
         ("one colour, Load, Store", loading()),
@@ -194,9 +194,40 @@ pub fn single_passes() -> impl Iterator<Item = (String, Pair)> {
         ("17 attachments", wide(1)),
         ("one colour, longest session", longest()),
     ];
-    kinds
-        .into_iter()
-        .map(|(name, session)| (name.to_string(), passes_of(&session)))
+    kinds.into_iter()
+}
+
+/// Single passes of each kind.
+pub fn single_passes() -> impl Iterator<Item = (String, Pair)> {
+    kinds().map(|(name, session)| (name.to_string(), passes_of(&session)))
+}
+
+/// Passes of a session that is read once: a hundred of the same, each ending its buffer, without the time of reading.
+fn judged(session: &Session) -> Pair {
+    let mut many = session.clone();
+    let mut pass = session.passes[0];
+    pass.ends = 1;
+    many.passes = vec![pass; MAX_PASSES as usize];
+    let file = many.to_bytes();
+    let mut rows = vec![0; ROWS_LEN];
+    let whole_and_read = pair(
+        MAX_PASSES as usize,
+        || {
+            black_box(desk::session(black_box(&file), &mut rows));
+        },
+        || {
+            black_box(desk::session_refusal(black_box(&file)));
+        },
+    );
+    Pair {
+        ours: whole_and_read.ours - whole_and_read.rust,
+        rust: passes_of(session).rust,
+    }
+}
+
+/// The same of each kind.
+pub fn judged_passes() -> impl Iterator<Item = (String, Pair)> {
+    kinds().map(|(name, session)| (name.to_string(), judged(&session)))
 }
 
 /// Pairs of passes between two emptyings of the action list.

@@ -13,7 +13,7 @@ use std::process::ExitCode;
 use checks::words::{only, text};
 use runs::{arguments, end};
 
-use cases::{growths, reading, single_passes, whole_sessions, Growth};
+use cases::{growths, judged_passes, reading, single_passes, whole_sessions, Growth};
 use timing::Pair;
 
 /// What the numbers are measured on and of.
@@ -85,7 +85,9 @@ fn run(arguments: &[String]) -> Result<(), String> {
     print!("{}{ABOUT}", machine());
     print_head("Whole sessions: read, judge, submit");
     whole_sessions().for_each(|(name, pair)| print_row(&name, pair));
-    print_head("Single passes of a session that is read again each time (ours) or held (Rust)");
+    print_head("A pass of a session that is read once (ours) or held (Rust)");
+    judged_passes().for_each(|(name, pair)| print_row(&name, pair));
+    print_head("Single calls: session and lent lists tested again each time (ours) or held (Rust)");
     single_passes().for_each(|(name, pair)| print_row(&name, pair));
     print_head("Reading only: the session's refusal");
     for (name, bytes, pair) in reading() {

@@ -1,0 +1,213 @@
+//! The proved functions against a plain vector of triples with `Vec::retain`, on random lists.
+
+use discards::{discard, retain, TextureInitRange, TextureSurfaceDiscard};
+use sessions::random::Prng;
+
+/// A list's room, with records around it that no call may touch.
+const GUARD: usize = 2;
+const MOST: u32 = 24;
+const LISTS: u32 = 100_000;
+
+/// The flat form of a record.
+type Triple = [u32; 3];
+
+fn triple(s: &TextureSurfaceDiscard) -> Triple {
+    [s.texture, s.mip, s.layer]
+}
+
+fn triples(list: &[TextureSurfaceDiscard]) -> Vec<Triple> {
+    list.iter().map(triple).collect()
+}
+
+/// Whether x is one of `count` numbers from `first` on.
+fn among(first: u32, count: u32, x: u32) -> bool {
+    (u64::from(first)..u64::from(first) + u64::from(count)).contains(&u64::from(x))
+}
+
+fn hits(range: &TextureInitRange, s: &Triple) -> bool {
+    s[0] == range.texture
+        && among(range.mip, range.mips, s[1])
+        && among(range.layer, range.layers, s[2])
+}
+
+/// A number of few, so that lists have duplicates; rarely one at the end of all.
+fn number(prng: &mut Prng, few: u32) -> u32 {
+    if prng.chance(4) {
+        u32::MAX - prng.below(2)
+    } else {
+        prng.below(few)
+    }
+}
+
+fn surface(prng: &mut Prng) -> TextureSurfaceDiscard {
+    TextureSurfaceDiscard {
+        texture: number(prng, 2),
+        mip: number(prng, 3),
+        layer: number(prng, 3),
+    }
+}
+
+fn range(prng: &mut Prng) -> TextureInitRange {
+    TextureInitRange {
+        texture: number(prng, 2),
+        mip: number(prng, 3),
+        mips: number(prng, 4),
+        layer: number(prng, 3),
+        layers: number(prng, 4),
+    }
+}
+
+/// How often each kind of call was made.
+#[derive(Default, Debug)]
+struct Seen {
+    appended: u32,
+    full: u32,
+    kept_some: u32,
+    kept_all: u32,
+    kept_none: u32,
+    empty: u32,
+    past_end: u32,
+}
+
+/// One append on records with guards around them: the new count.
+fn append(
+    records: &mut [TextureSurfaceDiscard],
+    n: usize,
+    prng: &mut Prng,
+    seen: &mut Seen,
+) -> usize {
+    let room = records.len() - 2 * GUARD;
+    let before = triples(records);
+    let s = surface(prng);
+    let r = discard(&mut records[GUARD..GUARD + room], n, s);
+    let mut flat = before.clone();
+    if n < room {
+        flat[GUARD + n] = triple(&s);
+        seen.appended += 1;
+    } else {
+        seen.full += 1;
+    }
+    assert_eq!(r, if n < room { n + 1 } else { n });
+    assert_eq!(triples(records), flat);
+    r
+}
+
+/// One compaction likewise.
+fn compact(
+    records: &mut [TextureSurfaceDiscard],
+    n: usize,
+    prng: &mut Prng,
+    seen: &mut Seen,
+) -> usize {
+    let room = records.len() - 2 * GUARD;
+    let before = triples(records);
+    let range = range(prng);
+    let r = retain(&mut records[GUARD..GUARD + room], n, range);
+    let after = triples(records);
+    if n > room {
+        seen.past_end += 1;
+        assert_eq!((r, after), (n, before));
+        return r;
+    }
+    let mut flat = before[GUARD..GUARD + n].to_vec();
+    flat.retain(|s| !hits(&range, s));
+    assert_eq!(after[GUARD..GUARD + r], flat, "{range:?} of {before:?}");
+    assert_eq!(after[..GUARD], before[..GUARD]);
+    assert_eq!(after[GUARD + n..], before[GUARD + n..]);
+    match r {
+        _ if n == 0 => seen.empty += 1,
+        0 => seen.kept_none += 1,
+        r if r == n => seen.kept_all += 1,
+        _ => seen.kept_some += 1,
+    }
+    r
+}
+
+#[test]
+fn random_lists_do_not_differ() {
+    let mut prng = Prng::new(10_010);
+    let mut seen = Seen::default();
+    for _ in 0..LISTS {
+        let room = prng.below(MOST + 1) as usize;
+        let mut records: Vec<_> = (0..room + 2 * GUARD).map(|_| surface(&mut prng)).collect();
+        let mut n = match prng.below(4) {
+            0 => room,
+            1 => 0,
+            _ => prng.below(room as u32 + 1) as usize,
+        };
+        for _ in 0..6 {
+            n = if prng.chance(50) {
+                append(&mut records, n, &mut prng, &mut seen)
+            } else {
+                compact(&mut records, n, &mut prng, &mut seen)
+            };
+        }
+        let past = room + 1 + prng.below(3) as usize;
+        append(&mut records, past, &mut prng, &mut seen);
+        compact(&mut records, past, &mut prng, &mut seen);
+        compact(&mut records, usize::MAX, &mut prng, &mut seen);
+    }
+    let Seen {
+        appended,
+        full,
+        kept_some,
+        kept_all,
+        kept_none,
+        empty,
+        past_end,
+    } = seen;
+    for count in [
+        appended, full, kept_some, kept_all, kept_none, empty, past_end,
+    ] {
+        assert!(count > 1_000, "{seen:?}");
+    }
+}
+
+#[test]
+fn order_and_duplicates_stay() {
+    let s = |texture, mip, layer| TextureSurfaceDiscard {
+        texture,
+        mip,
+        layer,
+    };
+    let mut list = [
+        s(1, 0, 0),
+        s(2, 0, 0),
+        s(1, 0, 0),
+        s(1, 0, 5),
+        s(2, 0, 0),
+        s(2, 0, 1),
+    ];
+    let range = TextureInitRange {
+        texture: 1,
+        mip: 0,
+        mips: 1,
+        layer: 0,
+        layers: 5,
+    };
+    let kept = [s(2, 0, 0), s(1, 0, 5), s(2, 0, 0), s(2, 0, 1)];
+    assert_eq!(retain(&mut list, 6, range), 4);
+    assert_eq!(list[..4], kept);
+    assert_eq!(discard(&mut list, 4, s(2, 0, 0)), 5);
+    assert_eq!(list[..4], kept);
+    assert_eq!(list[4], s(2, 0, 0));
+}
+
+#[test]
+fn an_empty_slice_has_no_room() {
+    let s = TextureSurfaceDiscard {
+        texture: 0,
+        mip: 0,
+        layer: 0,
+    };
+    let all = TextureInitRange {
+        texture: 0,
+        mip: 0,
+        mips: u32::MAX,
+        layer: 0,
+        layers: u32::MAX,
+    };
+    assert_eq!(discard(&mut [], 0, s), 0);
+    assert_eq!(retain(&mut [], 0, all), 0);
+    assert_eq!(retain(&mut [], 1, all), 1);
+}
