@@ -5,6 +5,7 @@
 use std::process::ExitCode;
 
 use compare::{enumerated_run, random_run, Counts};
+use sessions::command::{arguments, end};
 
 /// The two ways to call the program.
 const USE: &str = "compare --seed S --passes N\ncompare --enumerated";
@@ -22,16 +23,8 @@ fn run(arguments: &[String]) -> Result<Counts, String> {
 
 /// Prints the counts, or the first difference.
 fn main() -> ExitCode {
-    let arguments: Vec<String> = std::env::args().skip(1).collect();
-    match run(&arguments) {
-        Ok(counts) => {
-            print!("{counts}");
-            println!("no difference");
-            ExitCode::SUCCESS
-        }
-        Err(wrong) => {
-            eprintln!("{wrong}");
-            ExitCode::FAILURE
-        }
-    }
+    end(run(&arguments()).map(|counts| {
+        print!("{counts}");
+        println!("no difference");
+    }))
 }

@@ -6,6 +6,7 @@ use std::process::ExitCode;
 
 use checks::readers::{damaged, long_files, short_strings, ByNumber};
 use checks::words::{only, value, Progress};
+use sessions::command::{arguments, end};
 
 /// Prints what a set has seen.
 fn print(what: &str, seen: &ByNumber) {
@@ -34,12 +35,5 @@ fn run(arguments: &[String]) -> Result<(), String> {
 
 /// Reads the arguments.
 fn main() -> ExitCode {
-    let arguments: Vec<String> = std::env::args().skip(1).collect();
-    match run(&arguments) {
-        Ok(()) => ExitCode::SUCCESS,
-        Err(wrong) => {
-            eprintln!("{wrong}");
-            ExitCode::FAILURE
-        }
-    }
+    end(run(&arguments()))
 }

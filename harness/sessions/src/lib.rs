@@ -2,6 +2,7 @@
 //! and sets of sessions to run: random, enumerated and damaged ones.
 //! Nothing here knows how a pass is judged.
 
+pub mod command;
 pub mod damage;
 pub mod enumerate;
 pub mod layout;

@@ -5,6 +5,7 @@ use std::process::ExitCode;
 
 use checks::answers::{list, to_bytes};
 use checks::words::{only, value};
+use sessions::command::{arguments, end};
 
 /// Seed of the committed list.
 const SEED: u64 = 9_001;
@@ -30,12 +31,5 @@ fn run(arguments: &[String]) -> Result<(), String> {
 
 /// Reads the arguments.
 fn main() -> ExitCode {
-    let arguments: Vec<String> = std::env::args().skip(1).collect();
-    match run(&arguments) {
-        Ok(()) => ExitCode::SUCCESS,
-        Err(wrong) => {
-            eprintln!("{wrong}");
-            ExitCode::FAILURE
-        }
-    }
+    end(run(&arguments()))
 }

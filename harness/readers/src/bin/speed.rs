@@ -25,7 +25,9 @@ fn least(calls: usize, mut call: impl FnMut()) -> f64 {
 
 /// A little-endian u32; 0 past the end.
 fn u32_at(bytes: &[u8], at: usize) -> u32 {
-    bytes.get(at..at + 4).map_or(0, |b| u32::from_le_bytes([b[0], b[1], b[2], b[3]]))
+    bytes
+        .get(at..at + 4)
+        .map_or(0, |b| u32::from_le_bytes([b[0], b[1], b[2], b[3]]))
 }
 
 /// Document 01's test of a texture row.
@@ -45,7 +47,11 @@ fn texture_right(s: &[u8], at: usize) -> bool {
 
 /// Layers of a texture row: a 3D texture has one.
 fn layers(s: &[u8], at: usize) -> u32 {
-    if u32_at(s, at + 4) == 3 { 1 } else { u32_at(s, at + 16) }
+    if u32_at(s, at + 4) == 3 {
+        1
+    } else {
+        u32_at(s, at + 16)
+    }
 }
 
 /// Document 01's test of a view row.
@@ -61,7 +67,9 @@ fn view_right(s: &[u8], textures: u32, at: usize) -> bool {
         2..=5 => u32_at(s, texture + 4) == 2,
         _ => false,
     };
-    let within = |base: u32, count: u32, end: u32| count >= 1 && u64::from(base) + u64::from(count) <= u64::from(end);
+    let within = |base: u32, count: u32, end: u32| {
+        count >= 1 && u64::from(base) + u64::from(count) <= u64::from(end)
+    };
     fits && within(field(2), field(3), u32_at(s, texture + 20))
         && within(field(4), field(5), layers(s, texture))
         && field(6) & !u32_at(s, texture + 28) == 0
@@ -90,7 +98,10 @@ fn refusal(s: &[u8]) -> u32 {
         return 2;
     }
     let rows = (0..textures as usize).map(|k| 40 + 32 * k);
-    let surfaces: u64 = rows.clone().map(|at| u64::from(u32_at(s, at + 20)) * u64::from(layers(s, at))).sum();
+    let surfaces: u64 = rows
+        .clone()
+        .map(|at| u64::from(u32_at(s, at + 20)) * u64::from(layers(s, at)))
+        .sum();
     if !rows.clone().all(|at| texture_right(s, at)) || surfaces > 4096 {
         return 3;
     }
@@ -110,7 +121,13 @@ fn reader(name: &str, file: &[u8]) {
         black_box(refusal(black_box(file)));
     });
     let rate = |ns: f64| file.len() as f64 / ns;
-    println!("| {name} | {} | {ours:.0} | {:.1} | {rust:.0} | {:.1} | {:.2} |", file.len(), rate(ours), rate(rust), ours / rust);
+    println!(
+        "| {name} | {} | {ours:.0} | {:.1} | {rust:.0} | {:.1} | {:.2} |",
+        file.len(),
+        rate(ours),
+        rate(rust),
+        ours / rust
+    );
 }
 
 /// A session of so many textures of 15 mips and so many layers, with no views and no passes.
@@ -142,15 +159,24 @@ fn submission(textures: u32, mips: u32, layers: u32, count: u32) {
         lists.actions[..list.len()].copy_from_slice(&list);
         assert_eq!(desk::submit_buffer(&file, &mut lists), 0);
     });
-    println!("| {} | {count} | {} | {ns:.0} |", textures * mips * layers, count * layers);
+    println!(
+        "| {} | {count} | {} | {ns:.0} |",
+        textures * mips * layers,
+        count * layers
+    );
 }
 
 /// Prints both tables.
 fn main() {
-    println!("| file | bytes | ours, ns | ours, bytes/ns | Rust, ns | Rust, bytes/ns | ours / Rust |");
+    println!(
+        "| file | bytes | ours, ns | ours, bytes/ns | Rust, ns | Rust, bytes/ns | ours / Rust |"
+    );
     println!("|---|---|---|---|---|---|---|");
     let mut prng = Prng::new(6);
-    let mut files: Vec<Vec<u8>> = (0..400).map(|_| random::file(&mut prng)).filter(|f| refusal(f) == 0).collect();
+    let mut files: Vec<Vec<u8>> = (0..400)
+        .map(|_| random::file(&mut prng))
+        .filter(|f| refusal(f) == 0)
+        .collect();
     files.sort_by_key(Vec::len);
     for k in [0, files.len() / 2, files.len() - 1] {
         reader("random", &files[k]);
@@ -159,7 +185,15 @@ fn main() {
     println!();
     println!("| surfaces | actions | surfaces that they cover | ns |");
     println!("|---|---|---|---|");
-    for (textures, mips, layers, count) in [(1, 1, 1, 0), (16, 2, 32, 0), (64, 2, 32, 0), (64, 2, 32, 64), (64, 2, 32, 256), (64, 2, 32, 512), (64, 2, 1, 512)] {
+    for (textures, mips, layers, count) in [
+        (1, 1, 1, 0),
+        (16, 2, 32, 0),
+        (64, 2, 32, 0),
+        (64, 2, 32, 64),
+        (64, 2, 32, 256),
+        (64, 2, 32, 512),
+        (64, 2, 1, 512),
+    ] {
         submission(textures, mips, layers, count);
     }
 }

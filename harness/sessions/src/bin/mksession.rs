@@ -3,6 +3,7 @@
 
 use std::{fs, process::ExitCode};
 
+use sessions::command::{arguments, end};
 use sessions::text;
 
 /// The two ways to call the program.
@@ -27,12 +28,5 @@ fn run(arguments: &[String]) -> Result<(), String> {
 
 /// Says what went wrong, if anything.
 fn main() -> ExitCode {
-    let arguments: Vec<String> = std::env::args().skip(1).collect();
-    match run(&arguments) {
-        Ok(()) => ExitCode::SUCCESS,
-        Err(wrong) => {
-            eprintln!("{wrong}");
-            ExitCode::FAILURE
-        }
-    }
+    end(run(&arguments()))
 }
