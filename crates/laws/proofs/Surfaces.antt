@@ -10,9 +10,11 @@ use Rattle.definition.specs.Surfaces.{same, within, hits, firstOf, onlyRange, n
 use Rattle.definition.specs.Session.{Session, arrayLayers}
 use Rattle.definition.specs.MemoryInit.{retain}
 use Rattle.definition.specs.Calls.{surfaceRight, rangeRight}
+use Rattle.definition.specs.declared.Texture.{Texture}
 use Rattle.definition.specs.declared.Surface.{Surface}
 use Rattle.definition.specs.declared.Range.{Range}
 use Rattle.laws.specs.Surfaces.{InRange, Inside, RangeInside}
+use Rattle.laws.proofs.Conjunctions.{each}
 use Rattle.laws.proofs.Tests.{clash, and-left, and-right, bool-iff, or-factor}
 
 -- ── equal surfaces
@@ -23,31 +25,25 @@ same-refl a = simp (eq-eqb (a .texture) (a .texture) refl, eq-eqb (a .mip) (a .m
 
 pub same-eq : (a b : Surface) → same a b ≡ true → a ≡ b
 unfolding same
-same-eq a b h = λ i. record { texture = t i; mip = m i; layer = l i }
-  where
-    tm : (eqb (a .texture) (b .texture) && eqb (a .mip) (b .mip)) ≡ true
-    tm = and-left (eqb (a .texture) (b .texture) && eqb (a .mip) (b .mip)) _ h
-
-    t : a .texture ≡ b .texture
-    t = eqb-true _ _ (and-left (eqb (a .texture) (b .texture)) _ tm)
-
-    m : a .mip ≡ b .mip
-    m = eqb-true _ _ (and-right (eqb (a .texture) (b .texture)) _ tm)
-
-    l : a .layer ≡ b .layer
-    l = eqb-true _ _ (and-right (eqb (a .texture) (b .texture) && eqb (a .mip) (b .mip)) _ h)
+same-eq a b h =
+    let test = each (eqb (a .texture) (b .texture) ∷ eqb (a .mip) (b .mip) ∷ eqb (a .layer) (b .layer) ∷ []) h in
+    λ i. record { texture = eqb-true (a .texture) (b .texture) (test 0) i; mip = eqb-true (a .mip) (b .mip) (test 1) i; layer = eqb-true (a .layer) (b .layer) (test 2) i }
 
 pub same-ne : (a b : Surface) → (a ≡ b → ⊥) → same a b ≡ false
 same-ne a b h = bool-iff _ _ (λ e. absurd (h (same-eq a b e))) (λ e. clash {b = false} e refl)
 
 -- ── one of n numbers
 
-pub within-none : (a x : ℕ) → within a 0 x ≡ false
+within-low : (a n x : ℕ) → within a n x ≡ true → a ≤ x
 unfolding within
-within-none a x =
-    bool-iff _ _
-    (λ h. absurd (omega (arith, leb-true a x (and-left (leb a x) (ltb x (a + 0)) h), ltb-true x (a + 0) (and-right (leb a x) (ltb x (a + 0)) h))))
-    (λ h. clash {b = false} h refl)
+within-low a n x h = leb-true a x (and-left (leb a x) (ltb x (a + n)) h)
+
+within-high : (a n x : ℕ) → within a n x ≡ true → x < a + n
+unfolding within
+within-high a n x h = ltb-true x (a + n) (and-right (leb a x) (ltb x (a + n)) h)
+
+pub within-none : (a x : ℕ) → within a 0 x ≡ false
+within-none a x = bool-iff _ _ (λ h. absurd (omega (arith, within-low a 0 x h, within-high a 0 x h))) (λ h. clash {b = false} h refl)
 
 pub within-one : (a x : ℕ) → within a 1 x ≡ eqb x a
 unfolding within
@@ -80,19 +76,15 @@ within-on a n x h g = simp (le-leb a x h, lt-ltb x (a + n) g)
 
 -- The test as facts, and from facts.
 pub hits-in : (r : Range) (s : Surface) → hits r s ≡ true → InRange r s
-unfolding hits within
+unfolding hits
 hits-in r s h =
-    let tm : (eqb (s .texture) (r .texture) && within (r .mip) (r .mips) (s .mip)) ≡ true =
-    and-left (eqb (s .texture) (r .texture) && within (r .mip) (r .mips) (s .mip)) _ h in
-    let m : within (r .mip) (r .mips) (s .mip) ≡ true = and-right (eqb (s .texture) (r .texture)) _ tm in
-    let l : within (r .layer) (r .layers) (s .layer) ≡ true =
-    and-right (eqb (s .texture) (r .texture) && within (r .mip) (r .mips) (s .mip)) _ h in
+    let test = each (eqb (s .texture) (r .texture) ∷ within (r .mip) (r .mips) (s .mip) ∷ within (r .layer) (r .layers) (s .layer) ∷ []) h in
     record {
-      texture = eqb-true _ _ (and-left (eqb (s .texture) (r .texture)) _ tm);
-      mip-low = leb-true _ _ (and-left (leb (r .mip) (s .mip)) _ m);
-      mip-high = ltb-true _ _ (and-right (leb (r .mip) (s .mip)) _ m);
-      layer-low = leb-true _ _ (and-left (leb (r .layer) (s .layer)) _ l);
-      layer-high = ltb-true _ _ (and-right (leb (r .layer) (s .layer)) _ l);
+      texture = eqb-true (s .texture) (r .texture) (test 0);
+      mip-low = within-low (r .mip) (r .mips) (s .mip) (test 1);
+      mip-high = within-high (r .mip) (r .mips) (s .mip) (test 1);
+      layer-low = within-low (r .layer) (r .layers) (s .layer) (test 2);
+      layer-high = within-high (r .layer) (r .layers) (s .layer) (test 2);
     }
 
 -- A range of one mip and one layer has its first surface alone; a surface's own range has that surface alone.
@@ -148,12 +140,12 @@ named-one r p q s = or-false (same s (firstOf r)) ∙ sym (hits-one r s p q)
 pub surface-inside : (S : Session) (s : Surface) → surfaceRight S s ≡ true → Inside S s
 unfolding surfaceRight
 surface-inside S s h =
-    let tm : (ltb (s .texture) (S .textureCount) && ltb (s .mip) (S .texture (s .texture) .mips)) ≡ true =
-    and-left (ltb (s .texture) (S .textureCount) && ltb (s .mip) (S .texture (s .texture) .mips)) _ h in
+    let t : Texture = S .texture (s .texture) in
+    let test = each (ltb (s .texture) (S .textureCount) ∷ ltb (s .mip) (t .mips) ∷ ltb (s .layer) (arrayLayers t) ∷ []) h in
     record {
-      texture = ltb-true _ _ (and-left (ltb (s .texture) (S .textureCount)) _ tm);
-      mip = ltb-true _ _ (and-right (ltb (s .texture) (S .textureCount)) _ tm);
-      layer = ltb-true _ _ (and-right (ltb (s .texture) (S .textureCount) && ltb (s .mip) (S .texture (s .texture) .mips)) _ h);
+      texture = ltb-true (s .texture) (S .textureCount) (test 0);
+      mip = ltb-true (s .mip) (t .mips) (test 1);
+      layer = ltb-true (s .layer) (arrayLayers t) (test 2);
     }
 
 pub inside-surface : (S : Session) (s : Surface) → Inside S s → surfaceRight S s ≡ true
@@ -165,24 +157,24 @@ inside-surface S s h =
       lt-ltb (s .layer) (arrayLayers (S .texture (s .texture))) (h .layer),
     )
 
+-- The five tests of a range.
+pub range-from : (S : Session) (r : Range) → ltb (r .texture) (S .textureCount) ≡ true
+    → leb 1 (r .mips) ≡ true → leb (r .mip + r .mips) (S .texture (r .texture) .mips) ≡ true
+    → leb 1 (r .layers) ≡ true → leb (r .layer + r .layers) (arrayLayers (S .texture (r .texture))) ≡ true → RangeInside S r
+range-from S r texture some-mip mips some-layer layers = record {
+  texture = ltb-true (r .texture) (S .textureCount) texture;
+  some-mip = leb-true 1 (r .mips) some-mip;
+  mips = leb-true (r .mip + r .mips) (S .texture (r .texture) .mips) mips;
+  some-layer = leb-true 1 (r .layers) some-layer;
+  layers = leb-true (r .layer + r .layers) (arrayLayers (S .texture (r .texture))) layers;
+}
+
 pub range-inside : (S : Session) (r : Range) → rangeRight S r ≡ true → RangeInside S r
 unfolding rangeRight
 range-inside S r h =
-    let t : Bool = ltb (r .texture) (S .textureCount) in
-    let a : Bool = leb 1 (r .mips) in
-    let b : Bool = leb (r .mip + r .mips) (S .texture (r .texture) .mips) in
-    let c : Bool = leb 1 (r .layers) in
-    let d : Bool = leb (r .layer + r .layers) (arrayLayers (S .texture (r .texture))) in
-    let h1 : (t && a && b && c) ≡ true = and-left (t && a && b && c) d h in
-    let h2 : (t && a && b) ≡ true = and-left (t && a && b) c h1 in
-    let h3 : (t && a) ≡ true = and-left (t && a) b h2 in
-    record {
-      texture = ltb-true _ _ (and-left t a h3);
-      some-mip = leb-true _ _ (and-right t a h3);
-      mips = leb-true _ _ (and-right (t && a) b h2);
-      some-layer = leb-true _ _ (and-right (t && a && b) c h1);
-      layers = leb-true _ _ (and-right (t && a && b && c) d h);
-    }
+    let t : Texture = S .texture (r .texture) in
+    let test = each (ltb (r .texture) (S .textureCount) ∷ leb 1 (r .mips) ∷ leb (r .mip + r .mips) (t .mips) ∷ leb 1 (r .layers) ∷ leb (r .layer + r .layers) (arrayLayers t) ∷ []) h in
+    range-from S r (test 0) (test 1) (test 2) (test 3) (test 4)
 
 pub inside-range : (S : Session) (r : Range) → RangeInside S r → rangeRight S r ≡ true
 unfolding rangeRight

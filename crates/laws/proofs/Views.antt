@@ -1,10 +1,11 @@
 -- What number 4 says of a view: its surfaces are the session's, and only a 3D texture has D3 views.
 use mathlib.Core.Path.{_≡_, refl, sym, ap, subst, _∙_}
 use mathlib.Core.Bool.{Bool, true, false, _&&_, _||_, or-false}
+use mathlib.Core.List.{List, [], _∷_}
 use Prim.Native.Nat.{ℕ, _+_, _<_}
 use native.Mathlib.Omega.{arith}
 use lib.Dec.{leb, ltb, eqb}
-use borrow.Author.Tests.{eqb-true, leb-true, ltb-true}
+use borrow.Author.Tests.{eqb-true, leb-true}
 use Rattle.definition.specs.Surfaces.{hits, firstOf}
 use Rattle.definition.specs.Session.{Session, arrayLayers, viewRange, renderAttachment, isD2, isD2Array, isD3}
 use Rattle.definition.specs.Readable.{between, usageAmong, dimensionFits, viewInTexture, viewRight}
@@ -14,43 +15,27 @@ use Rattle.definition.specs.declared.View.{View}
 use Rattle.definition.specs.declared.Surface.{Surface}
 use Rattle.definition.specs.declared.Range.{Range}
 use Rattle.laws.specs.Surfaces.{InRange, Inside, RangeInside}
+use Rattle.laws.specs.Views.{ValidView}
 use Rattle.laws.proofs.Tests.{clash, and-left, and-right}
-use Rattle.laws.proofs.Surfaces.{hits-in}
+use Rattle.laws.proofs.Conjunctions.{each}
+use Rattle.laws.proofs.Surfaces.{hits-in, range-from}
 
-pub view-dimension : (S : Session) (v : View) → viewRight S v ≡ true → dimensionFits (v .dimension) (S .texture (v .texture) .dimension) ≡ true
-unfolding viewRight viewInTexture
-view-dimension S v h =
-    let t : Texture = S .texture (v .texture) in
-    let a : Bool = dimensionFits (v .dimension) (t .dimension) in
-    let b : Bool = leb 1 (v .mips) in
-    let c : Bool = leb (v .mip + v .mips) (t .mips) in
-    let d : Bool = leb 1 (v .layers) in
-    let e : Bool = leb (v .layer + v .layers) (arrayLayers t) in
-    let f : Bool = usageAmong (v .usage) (t .usage) in
-    and-left a b (and-left (a && b) c (and-left (a && b && c) d (and-left (a && b && c && d) e
-    (and-left (a && b && c && d && e) f (and-left (a && b && c && d && e && f) _ (and-right (ltb (v .texture) (S .textureCount)) _ h))))))
+-- The tests of a view against its texture, in their order.
+abbrev viewTests : Texture → View → List Bool
+viewTests t v =
+    dimensionFits (v .dimension) (t .dimension) ∷ leb 1 (v .mips) ∷ leb (v .mip + v .mips) (t .mips)
+    ∷ leb 1 (v .layers) ∷ leb (v .layer + v .layers) (arrayLayers t) ∷ usageAmong (v .usage) (t .usage) ∷ leb (v .resolvable) 1 ∷ []
 
-pub view-range : (S : Session) (v : View) → viewRight S v ≡ true → RangeInside S (viewRange v)
+pub valid-view : (S : Session) (v : View) → viewRight S v ≡ true → ValidView S v
 unfolding viewRight viewInTexture
-view-range S v h =
+valid-view S v h =
     let t : Texture = S .texture (v .texture) in
-    let a : Bool = dimensionFits (v .dimension) (t .dimension) in
-    let b : Bool = leb 1 (v .mips) in
-    let c : Bool = leb (v .mip + v .mips) (t .mips) in
-    let d : Bool = leb 1 (v .layers) in
-    let e : Bool = leb (v .layer + v .layers) (arrayLayers t) in
-    let f : Bool = usageAmong (v .usage) (t .usage) in
-    let to-e : (a && b && c && d && e) ≡ true =
-    and-left (a && b && c && d && e) f (and-left (a && b && c && d && e && f) _ (and-right (ltb (v .texture) (S .textureCount)) _ h)) in
-    let to-d : (a && b && c && d) ≡ true = and-left (a && b && c && d) e to-e in
-    let to-c : (a && b && c) ≡ true = and-left (a && b && c) d to-d in
-    let to-b : (a && b) ≡ true = and-left (a && b) c to-c in
+    let test = each (viewTests t v) (and-right (ltb (v .texture) (S .textureCount)) (viewInTexture t v) h) in
     record {
-      texture = ltb-true _ _ (and-left (ltb (v .texture) (S .textureCount)) _ h);
-      some-mip = leb-true _ _ (and-right a b to-b);
-      mips = leb-true _ _ (and-right (a && b) c to-c);
-      some-layer = leb-true _ _ (and-right (a && b && c) d to-d);
-      layers = leb-true _ _ (and-right (a && b && c && d) e to-e);
+      range = range-from S (viewRange v) (and-left (ltb (v .texture) (S .textureCount)) (viewInTexture t v) h) (test 1) (test 2) (test 3) (test 4);
+      dimension = test 0;
+      usage = test 5;
+      resolvable = leb-true (v .resolvable) 1 (test 6);
     }
 
 -- Every surface of a range of the session is the session's, its first among them.

@@ -1,3 +1,4 @@
 pub mod Surfaces
 pub mod Submission
 pub mod Room
+pub mod Views

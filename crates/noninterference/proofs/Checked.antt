@@ -30,7 +30,7 @@ use Rattle.laws.proofs.Tests.{clash, and-left, and-right, and-on, or-on-left, o
 use Rattle.laws.proofs.Surfaces.{hits-in, layers-all, named-one}
 use Rattle.laws.proofs.Verdicts.{then-left, then-right, unless-on}
 use Rattle.laws.proofs.Folds.{views-each}
-use Rattle.laws.proofs.Views.{view-dimension, view-range, range-surface, flat-view, renderable-mip}
+use Rattle.laws.proofs.Views.{valid-view, range-surface, flat-view, renderable-mip}
 use Rattle.noninterference.specs.Memory.{Aspect, colorAspect, depthAspect, stencilAspect, formatHas, Clear, ofColor, ofDepth, ofStencil, nothing, Part, partIn, useOf}
 use Rattle.noninterference.proofs.Plans.{inputOf, partOf, partsOf, plannedUse, hasPart, proper}
 use Rattle.noninterference.proofs.Sound.{Sound}
@@ -142,12 +142,11 @@ pub record ViewFacts (S : Session) (v : View) : Type 0 where
 pub view-facts : (S : Session) → Conditions S → (k : ℕ) → ltb k (S .viewCount) ≡ true → ViewFacts S (S .view k)
 view-facts S c k h =
     let g : k < S .viewCount = ltb-true k (S .viewCount) h in
-    let right = views-each S (S .viewCount) (c .views) k g in
-    let range : RangeInside S (viewRange (S .view k)) = view-range S (S .view k) right in
+    let valid = valid-view S (S .view k) (views-each S (S .viewCount) (c .views) k g) in
     record {
-      range = range;
+      range = valid .range;
       single = c .single k g;
-      flat = flat-view (S .view k .dimension) (S .texture (S .view k .texture) .dimension) (view-dimension S (S .view k) right) (c .flat (S .view k .texture) (range .texture));
+      flat = flat-view (S .view k .dimension) (S .texture (S .view k .texture) .dimension) (valid .dimension) (c .flat (S .view k .texture) (valid .range .texture));
     }
 
 -- An attachment of one mip and one layer of the session. (With every layer named by a discard, the layers would not matter.)

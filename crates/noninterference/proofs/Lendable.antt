@@ -31,7 +31,7 @@ use Rattle.laws.proofs.Folds.{views-each}
 use Rattle.laws.proofs.Places.{surfaces-counted}
 use Rattle.laws.proofs.Submission.{submit-right, bytes-long, bytes-fresh}
 use Rattle.laws.proofs.Room.{all-held, pass-listed, discards-fit}
-use Rattle.laws.proofs.Views.{view-range}
+use Rattle.laws.proofs.Views.{valid-view}
 use Rattle.laws.proofs.Lent.{surfaces-append, actions-append, surfaces-retain, first-right, implicits-right}
 use Rattle.noninterference.specs.Theorem.{lineOf, endState, printed}
 use Rattle.noninterference.proofs.Passes.{All, all-append}
@@ -86,7 +86,7 @@ all-right S (x ∷ xs) l a h = all-right S xs (attach x l) (a .1) (attach-right 
 
 module _ (S : Session) (vs : viewsRight S ≡ true) where
   view-right : (k : ℕ) → ltb k (S .viewCount) ≡ true → rangeRight S (viewRange (S .view k)) ≡ true
-  view-right k h = inside-range S (viewRange (S .view k)) (view-range S (S .view k) (views-each S (S .viewCount) vs k (ltb-true k (S .viewCount) h)))
+  view-right k h = inside-range S (viewRange (S .view k)) (valid-view S (S .view k) (views-each S (S .viewCount) vs k (ltb-true k (S .viewCount) h)) .range)
 
   slot-right : (s : Slot) → slotReads S s ≡ true → All (RangeRight S) (slotPart S s)
   unfolding slotReads slotPart resolvePart resolveReads

@@ -3,7 +3,7 @@
 use mathlib.Core.Path.{_≡_, refl, sym, _∙_}
 use mathlib.Core.Bool.{Bool, true, false, _&&_, _||_, cond}
 use mathlib.Core.List.{List, [], _∷_}
-use Prim.Native.Nat.{ℕ, _+_, _≤_, _<_}
+use Prim.Native.Nat.{ℕ, _≤_, _<_}
 use native.Mathlib.Nat.{le-trans, lt-of-lt-of-le}
 use native.Mathlib.Omega.{arith}
 use lib.Dec.{leb, ltb, eqb}
@@ -11,15 +11,14 @@ use lib.ListN.{length, getD}
 use borrow.Author.Tests.{leb-true, ltb-true, eqb-true}
 use Rattle.definition.specs.Formats.{isFormat}
 use Rattle.definition.specs.Session.{Pass, Session, session, textureCount, textureOffset, viewCount, viewOffset, passCount, passOffset, maxColors, maxMultiview, flags, totalLength, viewStart, passStart, passEnd, isNone, arrayLayers, surfaceCount}
-use Rattle.definition.specs.Readable.{between, lengthRight, headerRight, samplesRight, textureRight, texturesRead, texturesRight, usageAmong, dimensionFits, viewInTexture, viewRight, viewsRight, sessionRefusal, channelReads, depthStencilReads, resolveReads, slotReads, slotsRead, passReads}
+use Rattle.definition.specs.Readable.{between, lengthRight, headerRight, samplesRight, textureRight, texturesRead, texturesRight, viewsRight, sessionRefusal, channelReads, depthStencilReads, resolveReads, slotReads, slotsRead, passReads}
 use Rattle.definition.specs.declared.Texture.{Texture}
-use Rattle.definition.specs.declared.View.{View}
 use Rattle.definition.specs.declared.Slot.{Slot}
 use Rattle.laws.proofs.Tests.{clash, and-left, and-right, or-second}
 use Rattle.laws.proofs.Folds.{textures-each, views-each, slots-read-each, before-grows}
 use Rattle.laws.proofs.Places.{place-counted}
-use Rattle.laws.proofs.Views.{view-range, view-dimension}
-use Rattle.readable.specs.Valid.{ValidTexture, ValidView, Valid, ValidSlot, ValidDepthStencil, ValidPass}
+use Rattle.laws.proofs.Views.{valid-view}
+use Rattle.readable.specs.Valid.{ValidTexture, Valid, ValidSlot, ValidDepthStencil, ValidPass}
 use Rattle.laws.proofs.Conjunctions.{each}
 use Rattle.readable.proofs.Refusal.{refusalOf, refused-by}
 
@@ -79,20 +78,6 @@ valid-texture t e =
       samples = test 7;
       usage = leb-true (t .usage) 63 (test 8);
     }
-
--- ── a view row
-
-abbrev viewTests : Texture → View → List Bool
-viewTests t v =
-    dimensionFits (v .dimension) (t .dimension) ∷ leb 1 (v .mips) ∷ leb (v .mip + v .mips) (t .mips)
-    ∷ leb 1 (v .layers) ∷ leb (v .layer + v .layers) (arrayLayers t) ∷ usageAmong (v .usage) (t .usage) ∷ leb (v .resolvable) 1 ∷ []
-
-pub valid-view : (S : Session) (v : View) → viewRight S v ≡ true → ValidView S v
-unfolding viewRight viewInTexture
-valid-view S v e =
-    let t = S .texture (v .texture) in
-    let test = each (viewTests t v) (and-right (ltb (v .texture) (S .textureCount)) (viewInTexture t v) e) in
-    record { range = view-range S v e; dimension = view-dimension S v e; usage = test 5; resolvable = leb-true (v .resolvable) 1 (test 6) }
 
 -- ── the session
 

@@ -6,13 +6,13 @@ use mathlib.Core.List.{List}
 use Prim.Native.Nat.{ℕ, _≤_, _<_}
 use lib.ListN.{length}
 use Rattle.definition.specs.Formats.{isFormat}
-use Rattle.definition.specs.Session.{Pass, Session, session, passEnd, isNone, arrayLayers, surfacesBefore, surfaceIndex, viewRange}
-use Rattle.definition.specs.Readable.{samplesRight, usageAmong, dimensionFits, channelReads}
+use Rattle.definition.specs.Session.{Pass, Session, session, passEnd, isNone, arrayLayers, surfacesBefore, surfaceIndex}
+use Rattle.definition.specs.Readable.{samplesRight, channelReads}
 use Rattle.definition.specs.declared.Texture.{Texture}
-use Rattle.definition.specs.declared.View.{View}
 use Rattle.definition.specs.declared.Slot.{Slot}
 use Rattle.definition.specs.declared.Surface.{Surface}
-use Rattle.laws.specs.Surfaces.{Inside, RangeInside}
+use Rattle.laws.specs.Surfaces.{Inside}
+use Rattle.laws.specs.Views.{ValidView}
 
 pub record ValidTexture (t : Texture) : Type 0 where
   pub format : isFormat (t .format) ≡ true
@@ -24,12 +24,6 @@ pub record ValidTexture (t : Texture) : Type 0 where
   pub layers : (1 ≤ arrayLayers t) × (arrayLayers t ≤ 32)
   pub samples : samplesRight (t .samples) ≡ true
   pub usage : t .usage ≤ 63
-
-pub record ValidView (S : Session) (v : View) : Type 0 where
-  pub range : RangeInside S (viewRange v)
-  pub dimension : dimensionFits (v .dimension) (S .texture (v .texture) .dimension) ≡ true
-  pub usage : usageAmong (v .usage) (S .texture (v .texture) .usage) ≡ true
-  pub resolvable : v .resolvable ≤ 1
 
 pub record Valid (s : List ℕ) : Type 0 where
   pub bytes : length s ≡ passEnd s
