@@ -4,9 +4,11 @@ use native.Mathlib.Nat.{zero-add, suc-add, mul-suc, mul-le-mul-left}
 use native.Mathlib.Omega.{arith}
 use native.Mathlib.Numerals.{add-one}
 use mathlib.Core.Path.{_≡_, refl, sym, ap, _∙_}
+use mathlib.Core.Bool.{Bool}
 use mathlib.Core.List.{List, [], _∷_, _++_, append-assoc}
-use lib.ListN.{length, take, drop, getD, length-append, length-take}
-use lib.Seq.{take-nil, take-take, drop-drop, take-add, take-append-le, take-at, drop-at, length-take-le, sets, length-sets, sets-eq, getD-take, getD-drop}
+use lib.ListN.{length, take, drop, getD, length-append}
+use lib.Seq.{take-nil, take-take, drop-drop, take-at, drop-at, length-take-le, sets, length-sets, sets-eq, getD-take, getD-drop}
+use Rattle.definition.specs.MemoryInit.{retain}
 use Rattle.lists.specs.Records.{recordAt, records, Appended}
 
 module _ {A : Type 0} where
@@ -38,6 +40,10 @@ module _ {A : Type 0} (k : ℕ) (decode : List ℕ → A) where
   pub records-suc : (n : ℕ) (l : List ℕ) → records k decode (suc n) l ≡ records k decode n l ++ (recordAt k decode n l ∷ [])
   unfolding records
   records-suc n l = refl
+
+  -- The first records that pass, and one that is read after them.
+  pub retain-read : (p : A → Bool) (i : ℕ) (l : List ℕ) (s : A) → s ≡ recordAt k decode i l → retain p (records k decode (i + 1) l) ≡ retain p (records k decode i l ++ (s ∷ []))
+  retain-read p i l s read = ap (λ (q : ℕ). retain p (records k decode q l)) (add-one i) ∙ ap (retain p) (records-suc i l) ∙ ap (λ x. retain p (records k decode i l ++ (x ∷ []))) (sym read)
 
   -- A record depends on its own numbers alone, and the first n records on theirs.
   pub record-same : (i : ℕ) (l l′ : List ℕ) → drop (k * i) l′ ≡ drop (k * i) l → recordAt k decode i l′ ≡ recordAt k decode i l

@@ -44,7 +44,7 @@ module _ (a : TextureInitRange) (n : ℕ) (l : List Surface) (enough : n ≤ len
     k = t .k + 1;
     i = t .i + 1;
     long = length-set (t .l′) (t .k) s ∙ t .long;
-    going = compact-keeps 3 decodeSurface (outside a) n (numbers l) (numbers (t .l′)) (t .k) (t .i) (t .going) more s reads (numbers (set (t .l′) (t .k) s)) (t .k + 1) h writes refl;
+    going = compact-keeps (t .going) more reads refl h writes refl;
   }
 
   abbrev pub left-out : outside a s ≡ false → State a n l
@@ -53,13 +53,13 @@ module _ (a : TextureInitRange) (n : ℕ) (l : List Surface) (enough : n ≤ len
     k = t .k;
     i = t .i + 1;
     long = t .long;
-    going = compact-passes 3 decodeSurface (outside a) n (numbers l) (numbers (t .l′)) (t .k) (t .i) (t .going) more s reads (numbers (t .l′)) (t .k) h refl refl;
+    going = compact-passes (t .going) more reads refl h refl refl;
   }
 
 module _ (a : TextureInitRange) (n : ℕ) (l : List Surface) where
   -- All are read: what stays is retained.
   pub retained : (l′ : List Surface) (k i : ℕ) → n ≤ length l → Compacting 3 decodeSurface (outside a) n (numbers l) (numbers l′) k i → n ≤ i → Kept n (rangeOf a) l l′ k
-  retained l′ k i enough g over = record { retained = λ _. compact-done 3 decodeSurface (outside a) n (numbers l) (numbers l′) k i g over; refused = λ past. absurd (omega (arith, enough, past)) }
+  retained l′ k i enough g over = record { retained = λ _. compact-done g over; refused = λ past. absurd (omega (arith, enough, past)) }
 
   -- n is past the end: it is handed back and the slice stays.
   pub past-end : length l < n → Kept n (rangeOf a) l l n

@@ -1,6 +1,6 @@
 -- Compaction in place, with the test that the discard lies outside the range.
 use borrow.Author.Needs.{needs}
-use mathlib.Core.Path.{_≡_, refl, sym, ap, _∙_}
+use mathlib.Core.Path.{ap, _∙_}
 use native.Mathlib.Omega.{arith}
 use mathlib.Core.Logic.{⊎-elim}
 use mathlib.Core.Bool.{not}
@@ -19,7 +19,7 @@ abbrev μ-loop : tie.MeasureT-loop
 μ-loop discards₀ n range kept₀ i₀ discards kept i = n - i
 
 loop-holds : tie.Need-loop-holds Inv-loop μ-loop
-loop-holds c = compact-start _ _ _ _ _
+loop-holds c = compact-start
 
 loop-again : tie.Need-loop-again Inv-loop μ-loop
 loop-again c = let test = c .before in
@@ -27,15 +27,15 @@ loop-again c = let test = c .before in
     let at = read .before .before .before in
     let more = read .before .before .loop-test .taken in
     ⊎-elim
-    (λ w. compact-keeps 3 decodeSurface _ _ _ _ _ _ (at .loop .inv) more _ (read .surface-at .ensures) _ _ (ap not (sym (test .hits .ensures)) ∙ w .0 .taken) (surface-written _ _ _ _ (omega arith) (w .5 ∙ w .2 .ensures)) (w .6))
-    (λ w. compact-passes 3 decodeSurface _ _ _ _ _ _ (at .loop .inv) more _ (read .surface-at .ensures) _ _ (ap not (sym (test .hits .ensures)) ∙ w .0 .left) (w .1) (w .2))
+    (λ w. compact-keeps (at .loop .inv) more (read .surface-at .ensures) (ap not (test .hits .ensures)) (w .0 .taken) (surface-written _ _ _ _ (omega arith) (w .5 ∙ w .2 .ensures)) (w .6))
+    (λ w. compact-passes (at .loop .inv) more (read .surface-at .ensures) (ap not (test .hits .ensures)) (w .0 .left) (w .1) (w .2))
     (c .if1 .came)
 
 same-length : tie.Need-same-length Inv-loop μ-loop
 same-length c = c .before .loop .inv .long
 
 returns : tie.Need-returns Inv-loop μ-loop
-returns c = compact-done _ _ _ _ _ _ _ _ (c .before .loop .inv) (c .loop-test .left)
+returns c = compact-done (c .before .loop .inv) (c .loop-test .left)
 
 pub retain-others-spec : {M : Type 1} → statement M
 retain-others-spec =

@@ -271,7 +271,7 @@ module _ {M : Type 1} (𝓤 : URA M) (H : Heap 𝓤) (A : Atoms 𝓤) (W : Given
 
         loops : ent 𝓤 (⋆ 𝓤 H A (At l 0 0)) (Wp 𝓤 H C Λ E (loop code.Mir.turn-1) Left)
         loops = loop-rule 𝓤 H (W .laws) 𝓣 Less (InvImage·wf (λ (t : State a n l). n - t .i) (Nat·lt-wfRel .wf)) E code.Mir.turn-1 Left Inv (λ t. turn t (ltb (t .i) n) refl)
-            (record { l′ = l; k = 0; i = 0; long = refl; going = compact-start 3 decodeSurface (outside a) n (numbers l) })
+            (record { l′ = l; k = 0; i = 0; long = refl; going = compact-start })
 
       -- The test of n, and the statements before the loop, with the borrow opened.
       begins : ent 𝓤 (⋆ 𝓤 H A (Passed at₀ at₁ at₂ at₃ at₄ at₅ at₆ at₇ at₈ at₉ at₁₀ at₁₁ at₁₂ at₁₃ at₁₄ at₁₅)) (Wp 𝓤 H C Λ E code.Mir.t-1 (atReturn 𝓤 H E Post))
