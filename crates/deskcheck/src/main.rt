@@ -3,11 +3,14 @@
 // standard error says so.
 use libc::STDIN_FILENO;
 use libc::STDOUT_FILENO;
+use print::PRINTED_BYTES;
 use print::print_oversize;
 use print::print_session;
-ghost use Prim.Native.Nat.{_+_, _≤_};
+ghost use Prim.Native.Nat.{_+_, _*_, _≤_};
 ghost use lib.ListN.{length};
-ghost use Rattle.print.specs.Counts.{Counts};
+ghost use Rattle.definition.specs.Sizes.{maxPasses};
+ghost use Rattle.text.specs.Text.{lineBytes};
+ghost use Rattle.print.specs.Front.{FrontLength};
 
 // The length of the longest session.
 const MOST_BYTES: usize = 60680;
@@ -48,7 +51,7 @@ fn read_from(buf: &mut [u8], at: usize) -> Input
 
 // Reads until the buffer is full or the input ends.
 fn read_head(buf: &mut [u8]) -> Input
-    ensures { λ r. ⌜ Counts (r .bytes) (now (buf .exit)) ⌝ }
+    ensures { λ r. ⌜ FrontLength (r .bytes) (now (buf .exit)) ⌝ }
 {
     let mut at: usize = 0;
     while at < buf.len() {
@@ -86,10 +89,10 @@ fn read_rest(space: &mut [u8; 65536], held: u64) -> Length {
     }
 }
 
-// The text for the input, in a buffer of 9,900 bytes; 0 where reading failed.
+// The text for the input; 0 where reading failed.
 fn answer(out: &mut [u8]) -> Input
-    requires { ⌜ 9900 ≤ length (now out) ⌝ }
-    ensures { λ r. ⌜ Counts (r .bytes) (now (out .exit)) ⌝ }
+    requires { ⌜ lineBytes * maxPasses ≤ length (now out) ⌝ }
+    ensures { λ r. ⌜ FrontLength (r .bytes) (now (out .exit)) ⌝ }
 {
     let mut file = io::large_buffer();
     let head = read_head(&mut file);
@@ -121,7 +124,7 @@ fn answer(out: &mut [u8]) -> Input
 }
 
 fn main() {
-    let mut out = [0u8; 9900];
+    let mut out = [0u8; PRINTED_BYTES];
     let text = answer(&mut out);
     if text.failed {
         os::fail(b"standard input");

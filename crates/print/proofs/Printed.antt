@@ -1,41 +1,33 @@
 -- A text that is written is what is printed for a file, readable or refused.
-use mathlib.Core.Path.{_≡_, refl, sym, ap, subst, _∙_}
+use mathlib.Core.Path.{_≡_, sym, ap, subst, _∙_}
 use mathlib.Core.Logic.{_≢_}
-use mathlib.Core.List.{List, _++_}
+use mathlib.Core.List.{List}
 use mathlib.Core.Bool.{Bool, true, false, cond}
-use Prim.Native.Nat.{ℕ, zero, suc, _*_, _≤_, _<_}
+use Prim.Native.Nat.{ℕ, _≤_, _<_}
 use native.Mathlib.Omega.{arith}
 use borrow.Author.Tests.{eq-eqb, ne-eqb}
 use lib.Dec.{eqb}
-use lib.ListN.{length, take, length-take}
+use lib.ListN.{length, length-take}
 use Rattle.definition.specs.Session.{session, totalLength}
 use Rattle.definition.specs.Readable.{sessionRefusal}
 use Rattle.definition.specs.Program.{deskcheck}
 use Rattle.oversize.specs.Most.{mostBytes}
 use Rattle.oversize.proofs.Most.{long-refused}
-use Rattle.lent.specs.Numbers.{numbersAt}
 use Rattle.readable.proofs.Valid.{valid-of}
 use Rattle.rows.specs.Rows.{rowsIn}
-use Rattle.text.specs.Text.{lineText, linesText, refusalText, rowsText}
-use Rattle.text.proofs.Text.{lines-more}
+use Rattle.text.specs.Text.{linesText, refusalText}
 use Rattle.text.specs.Output.{output}
-use Rattle.print.specs.Counts.{Counts}
+use Rattle.print.specs.Front.{FrontLength}
 
--- What counts bytes of a buffer.
-pub counts : (out : List ℕ) (r : ℕ) → r ≤ length out → Counts r out
-counts out r h = (h, simp length-take (omega arith))
-
--- Rows that are read one after the other give their lines one after the other.
-rows-text : (b : List ℕ) (n : ℕ) → rowsText b n ≡ linesText (rowsIn b n)
-unfolding rowsText rowsIn linesText
-rows-text b zero = refl
-rows-text b (suc n) = ap (λ t. t ++ lineText (numbersAt b (36 * n) 9)) (rows-text b n) ∙ sym (lines-more (rowsIn b n) (numbersAt b (36 * n) 9))
+-- So many bytes that the buffer has.
+pub front-length : (out : List ℕ) (r : ℕ) → r ≤ length out → FrontLength r out
+front-length out r h = (h, simp length-take (omega arith))
 
 -- The rows of a readable session, as lines.
-pub printed-rows : (s rows text : List ℕ) (n : ℕ) → sessionRefusal s ≡ 0 → n ≡ session s .passCount → rowsIn rows (session s .passCount) ≡ deskcheck s → text ≡ rowsText rows n
+pub printed-rows : (s rows text : List ℕ) (n : ℕ) → sessionRefusal s ≡ 0 → n ≡ session s .passCount → rowsIn rows (session s .passCount) ≡ deskcheck s → text ≡ linesText (rowsIn rows n)
     → text ≡ output s
 unfolding output
-printed-rows s rows text n z p q e = e ∙ rows-text rows n ∙ ap (λ k. linesText (rowsIn rows k)) p ∙ ap linesText q ∙ simp (eq-eqb (sessionRefusal s) 0 z)
+printed-rows s rows text n z p q e = e ∙ ap (λ k. linesText (rowsIn rows k)) p ∙ ap linesText q ∙ simp (eq-eqb (sessionRefusal s) 0 z)
 
 -- It has at most a hundred.
 pub rows-few : (s : List ℕ) (n : ℕ) → sessionRefusal s ≡ 0 → n ≡ session s .passCount → n ≤ 100

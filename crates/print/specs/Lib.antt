@@ -1,2 +1,2 @@
 -- The root of what this crate means.
-pub mod Counts
+pub mod Front

@@ -1,25 +1,32 @@
 // What `deskcheck` prints for a file, written to the front of a buffer of 9,900 bytes: a hundred lines of ninety-nine.
 use desk::deskcheck_session;
 use oversize::oversize_refusal;
+use rows::ROWS_BYTES;
 use session::pass_count;
+use text::LINE_BYTES;
 use text::put_lines;
 use text::put_refusal;
 ghost use mathlib.Core.Path.{_≡_};
 ghost use mathlib.Core.List.{List};
-ghost use Prim.Native.Nat.{ℕ, _≤_, _<_};
+ghost use Prim.Native.Nat.{ℕ, _*_, _≤_, _<_};
 ghost use lib.ListN.{length, take};
+ghost use Rattle.definition.specs.Sizes.{maxPasses};
 ghost use Rattle.definition.specs.Session as Se;
 ghost use Rattle.oversize.specs.Most.{mostBytes};
+ghost use Rattle.text.specs.Text.{lineBytes};
 ghost use Rattle.text.specs.Output.{output};
-ghost use Rattle.print.specs.Counts.{Counts};
+ghost use Rattle.print.specs.Front.{FrontLength};
+
+// Bytes that the text for every file fits in.
+pub const PRINTED_BYTES: usize = 100 * LINE_BYTES;
 
 // A file that the caller holds whole.
 pub fn print_session(session: &[u8], out: &mut [u8]) -> usize
-    requires { ⌜ 9900 ≤ length (now out) ⌝ }
+    requires { ⌜ lineBytes * maxPasses ≤ length (now out) ⌝ }
     ensures { λ r. ⌜ take r (now (out .exit)) ≡ output (now (session .entry)) ⌝ }
-    ensures { λ r. ⌜ Counts r (now (out .exit)) ⌝ }
+    ensures { λ r. ⌜ FrontLength r (now (out .exit)) ⌝ }
 {
-    let mut rows: [u8; 3600] = [0; 3600];
+    let mut rows: [u8; ROWS_BYTES] = [0; ROWS_BYTES];
     let number = deskcheck_session(session, &mut rows);
     if number != 0 {
         return put_refusal(number, out);
@@ -29,9 +36,9 @@ pub fn print_session(session: &[u8], out: &mut [u8]) -> usize
 
 // A file that is longer than any session, of which the caller holds the header and knows the length.
 pub fn print_oversize(head: &[u8], bytes: u64, out: &mut [u8]) -> usize
-    requires { ⌜ 9900 ≤ length (now out) ⌝ }
+    requires { ⌜ lineBytes * maxPasses ≤ length (now out) ⌝ }
     ensures { λ r. ⌜ ((file : List ℕ) → length file ≡ bytes → Se.totalLength file ≡ Se.totalLength (now (head .entry)) → mostBytes < bytes → take r (now (out .exit)) ≡ output file) ⌝ }
-    ensures { λ r. ⌜ Counts r (now (out .exit)) ⌝ }
+    ensures { λ r. ⌜ FrontLength r (now (out .exit)) ⌝ }
 {
     put_refusal(oversize_refusal(head, bytes), out)
 }

@@ -66,12 +66,12 @@ row-line S k n o d d′ a a′ c c′ g =
     λ q. rowOf k (g .reply q) (counted q)
 
 module _ (S : Session) (k passes : ℕ) (n : Counts) (o : PassOutcome) (r : Counts) (b b′ d d′ a a′ c c′ : List ℕ) where
-  pub judged : Within n → Checked S (S .pass k) n o d d′ a a′ c c′ → b′ ≡ putNumbers b (36 * k) (rowOf k (o .reply) (o .counts .discards)) 9 → numbersAt b′ (36 * k) 9 ≡ rowOf k (o .reply) (o .counts .discards)
+  pub judged : Within n → Checked S (S .pass k) n o d d′ a a′ c c′ → b′ ≡ putNumbers b (rowBytes * k) (rowOf k (o .reply) (o .counts .discards)) rowNumbers → numbersAt b′ (rowBytes * k) rowNumbers ≡ rowOf k (o .reply) (o .counts .discards)
       → Next S k passes (o .counts) r → Judged S k passes n r b b′ d d′ a a′ c c′
   judged w g put row next =
       let e = row-line S k n o d d′ a a′ c c′ g in
       record {
-        written = put ∙ ap (λ xs. putNumbers b (36 * k) xs 9) e;
+        written = put ∙ ap (λ xs. putNumbers b (rowBytes * k) xs rowNumbers) e;
         row = row ∙ e;
         lists = λ left h. next .lists left h d′ a′ c′ ∙ ap (nextLists (S .pass k) left) (g .lists);
         within = next .within (g .within w);
@@ -85,7 +85,7 @@ unfolding rowsIn
 rows-kept b xs k zero h = refl
 rows-kept b xs k (suc j) h = λ q. rows-kept b xs k j (omega arith) q ++ (numbers-kept b (rowBytes * k) xs rowNumbers (rowBytes * j) rowNumbers (omega arith) q ∷ [])
 
-rows-next : (b : List ℕ) (k : ℕ) → rowsIn b (k + 1) ≡ rowsIn b k ++ (numbersAt b (rowBytes * k) rowNumbers ∷ [])
+pub rows-next : (b : List ℕ) (k : ℕ) → rowsIn b (k + 1) ≡ rowsIn b k ++ (numbersAt b (rowBytes * k) rowNumbers ∷ [])
 unfolding rowsIn
 rows-next b k = ap (rowsIn b) (add-one k)
 

@@ -15,7 +15,7 @@ abbrev pub rowNumbers : ℕ
 rowNumbers = 9
 
 abbrev pub rowBytes : ℕ
-rowBytes = 36
+rowBytes = 4 * rowNumbers
 
 -- The first n rows.
 unfoldable pub rowsIn : List ℕ → ℕ → List (List ℕ)

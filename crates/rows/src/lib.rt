@@ -9,7 +9,7 @@ use session::pass_count;
 ghost use mathlib.Core.Path.{_≡_};
 ghost use Prim.Native.Nat.{_+_, _*_, _≤_, _<_};
 ghost use lib.ListN.{length, drop};
-ghost use Rattle.definition.specs.Sizes.{maxDiscards, maxClears};
+ghost use Rattle.definition.specs.Sizes.{maxPasses, maxDiscards, maxClears};
 ghost use Rattle.definition.specs.Session.{session};
 ghost use Rattle.definition.specs.Readable.{sessionRefusal};
 ghost use Rattle.definition.specs.Calls.{noEntries};
@@ -17,22 +17,24 @@ ghost use Rattle.definition.specs.Program.{lines};
 ghost use Rattle.memory_init.specs.Lent.{Within};
 ghost use Rattle.lent.specs.Numbers.{numbersAt, putNumbers};
 ghost use Rattle.recording.specs.Recorded.{Lent};
-ghost use Rattle.rows.specs.Rows.{rowsIn, rowOf, Next, Judged};
+ghost use Rattle.rows.specs.Rows.{rowNumbers, rowBytes, rowsIn, rowOf, Next, Judged};
 
-// Bytes of a row.
-pub const ROW_BYTES: usize = 36;
+// Numbers and bytes of a row.
+pub const ROW_NUMBERS: usize = 9;
+
+pub const ROW_BYTES: usize = 4 * ROW_NUMBERS;
 
 // Bytes that the rows of every session fit in.
-pub const ROWS_BYTES: usize = 3600;
+pub const ROWS_BYTES: usize = 100 * ROW_BYTES;
 
 // The row of pass k.
 fn put_row(rows: &mut [u8], k: u32, r: PassReply, discards: usize)
-    requires { ⌜ (36 * k + 36 ≤ length (now rows)) × ((r .clears ≤ maxClears) × (discards ≤ maxDiscards)) ⌝ }
-    ensures { λ _. ⌜ now (rows .exit) ≡ putNumbers (now (rows .entry)) (36 * k) (rowOf k r discards) 9 ⌝ }
-    ensures { λ _. ⌜ numbersAt (now (rows .exit)) (36 * k) 9 ≡ rowOf k r discards ⌝ }
+    requires { ⌜ (rowBytes * k + rowBytes ≤ length (now rows)) × ((r .clears ≤ maxClears) × (discards ≤ maxDiscards)) ⌝ }
+    ensures { λ _. ⌜ now (rows .exit) ≡ putNumbers (now (rows .entry)) (rowBytes * k) (rowOf k r discards) rowNumbers ⌝ }
+    ensures { λ _. ⌜ numbersAt (now (rows .exit)) (rowBytes * k) rowNumbers ≡ rowOf k r discards ⌝ }
 {
     let v = r.verdict;
-    let row: [u32; 9] = [
+    let row: [u32; ROW_NUMBERS] = [
         k,
         v.number,
         v.place,
@@ -43,7 +45,7 @@ fn put_row(rows: &mut [u8], k: u32, r: PassReply, discards: usize)
         r.clears as u32,
         discards as u32,
     ];
-    write_numbers(rows, ROW_BYTES * (k as usize), 9, &row);
+    write_numbers(rows, ROW_BYTES * (k as usize), ROW_NUMBERS, &row);
 }
 
 // At a buffer's end, by the pass's flag or as the last pass, discards and actions are submitted; the clears stay.
@@ -72,7 +74,7 @@ fn put_pass(
     c: &mut [u32],
     n: Counts,
 ) -> Counts
-    requires { ⌜ Lent n (now d) (now a) (now c) × (Within n × ((36 * k + 36 ≤ length (now rows)) × (k < passes))) ⌝ }
+    requires { ⌜ Lent n (now d) (now a) (now c) × (Within n × ((rowBytes * k + rowBytes ≤ length (now rows)) × (k < passes))) ⌝ }
     ensures { λ r. ⌜ Judged (session (now (s .entry))) k passes n r (now (rows .entry)) (now (rows .exit)) (now (d .entry)) (now (d .exit)) (now (a .entry)) (now (a .exit)) (now (c .entry)) (now (c .exit)) ⌝ }
 {
     let outcome = check_pass(s, k, d, a, c, n);
@@ -84,9 +86,9 @@ fn put_pass(
 
 // The rows of so many passes, from lists without entries.
 fn put_rows(s: &[u8], passes: u32, rows: &mut [u8], d: &mut [u32], a: &mut [u32], c: &mut [u32])
-    requires { ⌜ (36 * passes ≤ length (now rows)) × ((192 ≤ length (now d)) × ((3072 ≤ length (now a)) × (240 ≤ length (now c)))) ⌝ }
+    requires { ⌜ (rowBytes * passes ≤ length (now rows)) × ((192 ≤ length (now d)) × ((3072 ≤ length (now a)) × (240 ≤ length (now c)))) ⌝ }
     ensures { λ _. ⌜ rowsIn (now (rows .exit)) passes ≡ lines (session (now (s .entry))) 0 passes noEntries ⌝ }
-    ensures { λ _. ⌜ drop (36 * passes) (now (rows .exit)) ≡ drop (36 * passes) (now (rows .entry)) ⌝ }
+    ensures { λ _. ⌜ drop (rowBytes * passes) (now (rows .exit)) ≡ drop (rowBytes * passes) (now (rows .entry)) ⌝ }
 {
     let mut n = Counts {
         discards: 0,
@@ -102,9 +104,9 @@ fn put_rows(s: &[u8], passes: u32, rows: &mut [u8], d: &mut [u32], a: &mut [u32]
 
 // The rows of a readable session; the bytes past them stay.
 pub fn session_rows(s: &[u8], rows: &mut [u8])
-    requires { ⌜ (sessionRefusal (now s) ≡ 0) × (3600 ≤ length (now rows)) ⌝ }
+    requires { ⌜ (sessionRefusal (now s) ≡ 0) × (rowBytes * maxPasses ≤ length (now rows)) ⌝ }
     ensures { λ _. ⌜ rowsIn (now (rows .exit)) (session (now (s .entry)) .passCount) ≡ lines (session (now (s .entry))) 0 (session (now (s .entry)) .passCount) noEntries ⌝ }
-    ensures { λ _. ⌜ drop (36 * session (now (s .entry)) .passCount) (now (rows .exit)) ≡ drop (36 * session (now (s .entry)) .passCount) (now (rows .entry)) ⌝ }
+    ensures { λ _. ⌜ drop (rowBytes * session (now (s .entry)) .passCount) (now (rows .exit)) ≡ drop (rowBytes * session (now (s .entry)) .passCount) (now (rows .entry)) ⌝ }
 {
     let mut d: [u32; 192] = [0; 192];
     let mut a: [u32; 3072] = [0; 3072];

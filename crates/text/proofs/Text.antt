@@ -9,7 +9,9 @@ use borrow.Author.Tests.{lt-ltb, le-ltb}
 use lib.ListN.{length, length-append}
 use Rattle.definition.specs.Bytes.{u32At}
 use Rattle.lent.specs.Numbers.{numbersAt}
-use Rattle.text.specs.Text.{places, digits, decimal, space, joined, lineText, linesText, rowsText}
+use Rattle.rows.specs.Rows.{rowNumbers, rowBytes, rowsIn}
+use Rattle.rows.proofs.Rows.{rows-next}
+use Rattle.text.specs.Text.{places, digits, decimal, space, joined, lineText, linesText}
 
 -- Dividing by 10 once more.
 pub shifted : (n k : ℕ) → n / 10 ^ k / 10 ≡ n / 10 ^ suc k
@@ -70,13 +72,14 @@ number-more t u v b at i x h eu ex ev =
     ∙ ap (λ l. t ++ l) (sym (joined-more (numbersAt b at i) (u32At b (at + 4 * i)) n))
     ∙ ap (λ m. t ++ joined (numbersAt b at m)) (sym (add-one i))
 
--- The lines of the first k rows, and one line more.
-pub row-more : (u v b : List ℕ) (k : ℕ) → u ≡ rowsText b k → v ≡ u ++ lineText (numbersAt b (36 * k) 9) → v ≡ rowsText b (k + 1)
-unfolding rowsText
-row-more u v b k eu ev = ev ∙ ap (λ l. l ++ lineText (numbersAt b (36 * k) 9)) eu ∙ ap (rowsText b) (sym (add-one k))
-
 -- A further line at the end of a list of lines.
 pub lines-more : (ls : List (List ℕ)) (l : List ℕ) → linesText (ls ++ (l ∷ [])) ≡ linesText ls ++ lineText l
 unfolding linesText
 lines-more [] l = append-nil (lineText l)
 lines-more (a ∷ ls) l = ap (λ t. lineText a ++ t) (lines-more ls l) ∙ sym (append-assoc (lineText a) (linesText ls) (lineText l))
+
+-- The lines of the first k rows, and one line more.
+pub row-more : (u v b : List ℕ) (k : ℕ) → u ≡ linesText (rowsIn b k) → v ≡ u ++ lineText (numbersAt b (rowBytes * k) rowNumbers) → v ≡ linesText (rowsIn b (k + 1))
+row-more u v b k eu ev =
+    let row = numbersAt b (rowBytes * k) rowNumbers in
+    ev ∙ ap (λ l. l ++ lineText row) eu ∙ sym (lines-more (rowsIn b k) row) ∙ ap linesText (sym (rows-next b k))

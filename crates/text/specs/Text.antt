@@ -1,9 +1,8 @@
 -- Numbers as text, in ASCII.
-use Prim.Native.Nat.{ℕ, zero, suc, _+_, _*_, _/_, _%_, _^_}
+use Prim.Native.Nat.{ℕ, zero, suc, _+_, _/_, _%_, _^_}
 use mathlib.Core.List.{List, [], _∷_, _++_}
 use mathlib.Core.Bool.{cond}
 use lib.Dec.{ltb}
-use Rattle.lent.specs.Numbers.{numbersAt}
 
 -- How many digits n has, k of them counted so far: one more for each division by ten while n is ten or more, at most f times.
 unfoldable pub places : ℕ → ℕ → ℕ → ℕ
@@ -35,6 +34,10 @@ joined (x ∷ y ∷ rest) = decimal x ++ (space ∷ joined (y ∷ rest))
 unfoldable pub lineText : List ℕ → List ℕ
 lineText xs = joined xs ++ (newline ∷ [])
 
+-- The most bytes of a row's line: nine numbers of ten digits, eight spaces and a newline.
+abbrev pub lineBytes : ℕ
+lineBytes = 99
+
 -- Lines, one after the other.
 unfoldable pub linesText : List (List ℕ) → List ℕ
 linesText [] = []
@@ -47,8 +50,3 @@ sessionWord = 115 ∷ 101 ∷ 115 ∷ 115 ∷ 105 ∷ 111 ∷ 110 ∷ space ∷ 
 -- The line of a refused session.
 unfoldable pub refusalText : ℕ → List ℕ
 refusalText n = sessionWord ++ lineText (n ∷ [])
-
--- The lines of the first n rows of nine numbers that stand in bytes.
-unfoldable pub rowsText : List ℕ → ℕ → List ℕ
-rowsText b zero = []
-rowsText b (suc n) = rowsText b n ++ lineText (numbersAt b (36 * n) 9)

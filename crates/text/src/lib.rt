@@ -1,12 +1,18 @@
 // What `deskcheck` prints, as bytes. Each function writes at a place and answers the place after; what stands before that
 // place in the buffer is the text so far.
+use rows::ROW_BYTES;
+use rows::ROW_NUMBERS;
 use wire::u32_at;
 ghost use mathlib.Core.Path.{_≡_};
 ghost use mathlib.Core.List.{[], _∷_, _++_};
 ghost use Prim.Native.Nat.{_+_, _*_, _/_, _%_, _^_, _≤_, _<_};
 ghost use lib.ListN.{length, take};
 ghost use Rattle.lent.specs.Numbers.{numbersAt};
+ghost use Rattle.rows.specs.Rows.{rowNumbers, rowBytes, rowsIn};
 ghost use Rattle.text.specs.Text as T;
+
+// The most bytes of a row's line.
+pub const LINE_BYTES: usize = 99;
 
 const SPACE: u8 = b' ';
 
@@ -81,15 +87,15 @@ fn put_next(out: &mut [u8], at: usize, n: u32) -> usize
     put_decimal(out, p, n)
 }
 
-// The nine numbers of row k, with spaces between.
+// The numbers of row k, with spaces between.
 fn put_row(rows: &[u8], k: usize, out: &mut [u8], at: usize) -> usize
-    requires { ⌜ (36 * k + 36 ≤ length (now rows)) × (at + 98 ≤ length (now out)) ⌝ }
-    ensures { λ r. ⌜ (take r (now (out .exit)) ≡ take at (now (out .entry)) ++ T.joined (numbersAt (now (rows .entry)) (36 * k) 9)) × (r ≤ at + 98) ⌝ }
+    requires { ⌜ (rowBytes * k + rowBytes ≤ length (now rows)) × (at + 98 ≤ length (now out)) ⌝ }
+    ensures { λ r. ⌜ (take r (now (out .exit)) ≡ take at (now (out .entry)) ++ T.joined (numbersAt (now (rows .entry)) (rowBytes * k) rowNumbers)) × (r ≤ at + 98) ⌝ }
 {
-    let first = 36 * k;
+    let first = ROW_BYTES * k;
     let mut p = put_decimal(out, at, u32_at(rows, first));
     let mut i: usize = 1;
-    while i < 9 {
+    while i < ROW_NUMBERS {
         p = put_next(out, p, u32_at(rows, first + 4 * i));
         i += 1;
     }
@@ -98,8 +104,8 @@ fn put_row(rows: &[u8], k: usize, out: &mut [u8], at: usize) -> usize
 
 // The line of row k.
 pub fn put_line(rows: &[u8], k: usize, out: &mut [u8], at: usize) -> usize
-    requires { ⌜ (36 * k + 36 ≤ length (now rows)) × (at + 99 ≤ length (now out)) ⌝ }
-    ensures { λ r. ⌜ (take r (now (out .exit)) ≡ take at (now (out .entry)) ++ T.lineText (numbersAt (now (rows .entry)) (36 * k) 9)) × (r ≤ at + 99) ⌝ }
+    requires { ⌜ (rowBytes * k + rowBytes ≤ length (now rows)) × (at + T.lineBytes ≤ length (now out)) ⌝ }
+    ensures { λ r. ⌜ (take r (now (out .exit)) ≡ take at (now (out .entry)) ++ T.lineText (numbersAt (now (rows .entry)) (rowBytes * k) rowNumbers)) × (r ≤ at + T.lineBytes) ⌝ }
 {
     let p = put_row(rows, k, out, at);
     put_byte(out, p, NEWLINE)
@@ -107,8 +113,8 @@ pub fn put_line(rows: &[u8], k: usize, out: &mut [u8], at: usize) -> usize
 
 // The lines of the first n rows, from the front.
 pub fn put_lines(rows: &[u8], n: usize, out: &mut [u8]) -> usize
-    requires { ⌜ (36 * n ≤ length (now rows)) × (99 * n ≤ length (now out)) ⌝ }
-    ensures { λ r. ⌜ (take r (now (out .exit)) ≡ T.rowsText (now (rows .entry)) n) × (r ≤ 99 * n) ⌝ }
+    requires { ⌜ (rowBytes * n ≤ length (now rows)) × (T.lineBytes * n ≤ length (now out)) ⌝ }
+    ensures { λ r. ⌜ (take r (now (out .exit)) ≡ T.linesText (rowsIn (now (rows .entry)) n)) × (r ≤ T.lineBytes * n) ⌝ }
 {
     let mut p: usize = 0;
     let mut k: usize = 0;

@@ -4,7 +4,7 @@ use Prim.Native.Nat.{_<_}
 use native.Mathlib.Omega.{arith}
 use borrow.Author.Needs.{needs}
 use Rattle.oversize.specs.Most.{mostBytes}
-use Rattle.print.proofs.Printed.{counts, printed-refusal, long-not-readable}
+use Rattle.print.proofs.Printed.{front-length, printed-refusal, long-not-readable}
 use Rattle.print.proofs.print_oversize.Statement.{statement}
 use Rattle.print.proofs.print_oversize.Tie as tie
 
@@ -15,7 +15,7 @@ returns c =
       λ file e t h.
           let q = number .ensures file e t h in
           printed-refusal file _ _ q (λ z. long-not-readable file (subst (λ n. mostBytes < n) (sym e) h) (sym q ∙ z)) (put .ensures .0),
-      counts _ _ (omega arith),
+      front-length _ _ (omega arith),
     )
 
 pub print-oversize-spec : {M : Type 1} → statement M

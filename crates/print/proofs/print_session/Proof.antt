@@ -3,14 +3,14 @@ use mathlib.Core.Path.{sym, _∙_}
 use Prim.Native.Nat.{_≤_}
 use native.Mathlib.Omega.{arith}
 use borrow.Author.Needs.{needs}
-use Rattle.print.proofs.Printed.{counts, printed-rows, printed-refusal, rows-few}
+use Rattle.print.proofs.Printed.{front-length, printed-rows, printed-refusal, rows-few}
 use Rattle.print.proofs.print_session.Statement.{statement}
 use Rattle.print.proofs.print_session.Tie as tie
 
 returns : tie.Need-returns
 returns c =
     let called = c .before .before .before .before .before .before .deskcheck-session in
-    (printed-refusal _ _ _ (called .ensures .0) (c .before .before .before .before .if1 .taken) (c .before .before .put-refusal .ensures .0), counts _ _ (omega arith))
+    (printed-refusal _ _ _ (called .ensures .0) (c .before .before .before .before .if1 .taken) (c .before .before .put-refusal .ensures .0), front-length _ _ (omega arith))
 
 put-lines-requires : tie.Need-put-lines-requires
 put-lines-requires c κs =
@@ -27,7 +27,7 @@ returns-2 c =
     let number = counted .before .before .if1 .left in
     let accepted = sym (called .ensures .0) ∙ number in
     let few : counted .pass-count .result ≤ 100 = rows-few _ _ accepted (counted .pass-count .ensures) in
-    (printed-rows _ _ _ _ accepted (counted .pass-count .ensures) (called .ensures .1 .0 number .lines) (c .before .before .put-lines .ensures .0), counts _ _ (omega (arith, few)))
+    (printed-rows _ _ _ _ accepted (counted .pass-count .ensures) (called .ensures .1 .0 number .lines) (c .before .before .put-lines .ensures .0), front-length _ _ (omega (arith, few)))
 
 pub print-session-spec : {M : Type 1} → statement M
 print-session-spec =

@@ -1,14 +1,14 @@
 -- A readable session has at most 100 passes, so that the rows fit.
 use mathlib.Core.Path.{_≡_, subst}
 use native.Mathlib.Omega.{arith}
-use Prim.Native.Nat.{ℕ, _*_, _≤_}
+use Prim.Native.Nat.{ℕ, _*_}
 use borrow.Author.Needs.{needs}
 use lib.ListN.{drop}
 use Rattle.definition.specs.Session.{session}
 use Rattle.definition.specs.Calls.{noEntries}
 use Rattle.definition.specs.Program.{lines}
 use Rattle.readable.proofs.Valid.{valid-of}
-use Rattle.rows.specs.Rows.{rowsIn}
+use Rattle.rows.specs.Rows.{rowBytes, rowsIn}
 use Rattle.rows.proofs.session_rows.Statement.{statement}
 use Rattle.rows.proofs.session_rows.Tie as tie
 
@@ -25,7 +25,7 @@ returns c =
     let put = c .before .before .before .before .before .put-rows in
     let b = put .last .1 .1 .0 in (
       subst (λ (q : ℕ). rowsIn b q ≡ lines (session (start .args .s .now)) 0 q noEntries) e (put .ensures .0),
-      subst (λ (q : ℕ). drop (36 * q) b ≡ drop (36 * q) (start .args .rows .now)) e (put .ensures .1),
+      subst (λ (q : ℕ). drop (rowBytes * q) b ≡ drop (rowBytes * q) (start .args .rows .now)) e (put .ensures .1),
     )
 
 pub session-rows-spec : {M : Type 1} → statement M

@@ -3,19 +3,20 @@ use mathlib.Core.Path.{_≡_, refl, _∙_}
 use Prim.Native.Nat.{_-_, _*_, _≤_}
 use native.Mathlib.Omega.{arith}
 use lib.ListN.{length, take}
-use Rattle.text.specs.Text.{rowsText}
+use Rattle.rows.specs.Rows.{rowsIn}
+use Rattle.text.specs.Text.{lineBytes, linesText}
 use Rattle.text.proofs.Text.{row-more}
 use Rattle.text.proofs.put_lines.Statement.{statement}
 use Rattle.text.proofs.put_lines.Tie as tie
 
 abbrev Inv-loop : tie.InvT-loop
-Inv-loop rows n out₀ p₀ k₀ out p k = (take p out ≡ rowsText rows k) × (k ≤ n) × (p ≤ 99 * k) × (length out ≡ length out₀)
+Inv-loop rows n out₀ p₀ k₀ out p k = (take p out ≡ linesText (rowsIn rows k)) × (k ≤ n) × (p ≤ lineBytes * k) × (length out ≡ length out₀)
 
 abbrev μ-loop : tie.MeasureT-loop
 μ-loop rows n out₀ p₀ k₀ out p k = n - k
 
 loop-holds : tie.Need-loop-holds Inv-loop μ-loop
-unfolding rowsText
+unfolding rowsIn linesText
 loop-holds c = (refl, omega arith, omega arith, refl)
 
 loop-again : tie.Need-loop-again Inv-loop μ-loop

@@ -6,6 +6,7 @@ use native.Mathlib.Omega.{arith}
 use borrow.Author.Needs.{needs}
 use lib.ListN.{length, take}
 use Rattle.lent.specs.Numbers.{numbersAt}
+use Rattle.rows.specs.Rows.{rowNumbers}
 use Rattle.text.specs.Text.{joined}
 use Rattle.text.proofs.Text.{number-first, number-more}
 use Rattle.text.proofs.put_row.Statement.{statement}
@@ -14,10 +15,10 @@ use Rattle.text.proofs.put_row.Tie as tie
 abbrev Inv-loop : tie.InvT-loop
 Inv-loop rows k out₀ at first p₀ i₀ out p i =
     ((t : List ℕ) → take p₀ out₀ ≡ t ++ joined (numbersAt rows first 1) → take p out ≡ t ++ joined (numbersAt rows first i))
-    × (0 < i) × (i ≤ 9) × (p + 11 ≤ p₀ + 11 * i) × (length out ≡ length out₀)
+    × (0 < i) × (i ≤ rowNumbers) × (p + 11 ≤ p₀ + 11 * i) × (length out ≡ length out₀)
 
 abbrev μ-loop : tie.MeasureT-loop
-μ-loop rows k out₀ at first p₀ i₀ out p i = 9 - i
+μ-loop rows k out₀ at first p₀ i₀ out p i = rowNumbers - i
 
 loop-holds : tie.Need-loop-holds Inv-loop μ-loop
 loop-holds c = (λ t h. h, omega arith, omega arith, omega arith, refl)
@@ -42,7 +43,7 @@ returns c =
     let l = c .before .loop in
     let first = c .before .before .before .before in
     let a = first .before .before .before .before .before .args in
-    let e : l .i ≡ 9 = omega arith in
+    let e : l .i ≡ rowNumbers = omega arith in
     let t = take (a .at) (a .out .now) in
     (rw e at (l .inv .0 t (number-first t _ _ _ _ (first .before .u32-at .ensures) (first .put-decimal .ensures .0))), omega arith)
 
