@@ -1,5 +1,5 @@
 -- A call at an entry point is one clause of its definition, and what is packed is what the numbers hold.
-use mathlib.Core.Path.{_≡_, sym, ap, _∙_}
+use mathlib.Core.Path.{_≡_, refl, sym, ap, _∙_}
 use mathlib.Core.Logic.{_≢_}
 use mathlib.Core.Bool.{true, false}
 use mathlib.Core.List.{List, []}
@@ -10,7 +10,7 @@ use borrow.Author.Tests.{eq-eqb, ne-eqb}
 use lib.ListN.{length}
 use Rattle.definition.specs.Session.{session}
 use Rattle.definition.specs.Readable.{sessionRefusal}
-use Rattle.definition.specs.Calls.{Call, noEntries, lentRight, called, notLent, call}
+use Rattle.definition.specs.Calls.{State, Call, pass, submit, Answer, Step, noEntries, lentRight, called, notLent, call}
 use Rattle.definition.specs.Program.{lines, deskcheck}
 use Rattle.laws.proofs.Tests.{cond-on, cond-off}
 use Rattle.lists.specs.Records.{records}
@@ -40,19 +40,37 @@ none-listed b h =
 
 -- ── a call at an entry point
 
-pub entry-short : (s : List ℕ) (k : Call) (d a c status : List ℕ) → short d a c status ≡ true → entry s k d a c status ≡ refusedCall 6 k (stateIn d a c status)
-unfolding entry
-entry-short s k d a c status h = cond-on (short d a c status) _ _ h
+-- What a C function promises of a call whose step is t: the reply reads the answer, what is lent then holds the state, and the rest.
+abbrev pub Stepped : {X : Type 0} → (Answer → X) → Step → X → State → Type 0 → Type 0
+Stepped read t r σ Rest = (r ≡ read (t .answer)) × ((σ ≡ t .state) × Rest)
 
-pub entry-refused : (s : List ℕ) (k : Call) (d a c status : List ℕ) → short d a c status ≡ false → sessionRefusal s ≢ 0
-    → entry s k d a c status ≡ refusedCall (sessionRefusal s) k (stateIn d a c status)
-unfolding entry
-entry-refused s k d a c status h g = cond-off (short d a c status) _ _ h ∙ cond-off (eqb (sessionRefusal s) 0) _ _ (ne-eqb (sessionRefusal s) 0 g)
+pub same-step : {X Rest : Type 0} (read : Answer → X) (t u : Step) → u ≡ t → (r : X) (σ : State) → Stepped read t r σ Rest → Stepped read u r σ Rest
+same-step read t u e r σ (told, (left, rest)) = (told ∙ ap (λ (q : Step). read (q .answer)) (sym e), (left ∙ ap (λ (q : Step). q .state) (sym e), rest))
 
-pub entry-lent : (s : List ℕ) (k : Call) (d a c status : List ℕ) → short d a c status ≡ false → sessionRefusal s ≡ 0
-    → entry s k d a c status ≡ call (session s) k (stateIn d a c status)
-unfolding entry
-entry-lent s k d a c status h g = cond-off (short d a c status) _ _ h ∙ cond-on (eqb (sessionRefusal s) 0) _ _ (eq-eqb (sessionRefusal s) 0 g)
+-- A refusal leaves the state.
+refused-state : (n : ℕ) (k : Call) (σ : State) → σ ≡ refusedCall n k σ .state
+refused-state n (pass i) σ = refl
+refused-state n submit σ = refl
+
+module _ {X Rest : Type 0} (read : Answer → X) (s : List ℕ) (k : Call) (d a c b : List ℕ) (r : X) where
+  pub entry-short : short d a c b ≡ true → r ≡ read (refusedCall 6 k (stateIn d a c b) .answer) → Rest → Stepped read (entry s k d a c b) r (stateIn d a c b) Rest
+  unfolding entry
+  entry-short h told rest =
+      same-step read (refusedCall 6 k (stateIn d a c b)) (entry s k d a c b) (cond-on (short d a c b) _ _ h) r (stateIn d a c b) (told, (refused-state 6 k (stateIn d a c b), rest))
+
+  pub entry-refused : short d a c b ≡ false → sessionRefusal s ≢ 0 → r ≡ read (refusedCall (sessionRefusal s) k (stateIn d a c b) .answer) → Rest
+      → Stepped read (entry s k d a c b) r (stateIn d a c b) Rest
+  unfolding entry
+  entry-refused h g told rest =
+      same-step read (refusedCall (sessionRefusal s) k (stateIn d a c b)) (entry s k d a c b)
+      (cond-off (short d a c b) _ _ h ∙ cond-off (eqb (sessionRefusal s) 0) _ _ (ne-eqb (sessionRefusal s) 0 g))
+      r (stateIn d a c b) (told, (refused-state (sessionRefusal s) k (stateIn d a c b), rest))
+
+  pub entry-lent : (σ : State) → short d a c b ≡ false → sessionRefusal s ≡ 0 → Stepped read (call (session s) k (stateIn d a c b)) r σ Rest → Stepped read (entry s k d a c b) r σ Rest
+  unfolding entry
+  entry-lent σ h g made =
+      same-step read (call (session s) k (stateIn d a c b)) (entry s k d a c b)
+      (cond-off (short d a c b) _ _ h ∙ cond-on (eqb (sessionRefusal s) 0) _ _ (eq-eqb (sessionRefusal s) 0 g)) r σ made
 
 -- ── the whole session
 

@@ -1,3 +1,4 @@
 -- The root of this crate's laws.
 pub mod Calls
 pub mod Passed
+pub mod Sent

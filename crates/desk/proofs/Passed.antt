@@ -28,7 +28,7 @@ use Rattle.render.specs.Outcome.{replied, Checked}
 use Rattle.desk.specs.declared.reply.Reply.{Reply}
 use Rattle.desk.specs.Entry.{RestStays}
 use Rattle.desk.specs.Reply.{numbered, refusedReply, answered}
-use Rattle.desk.proofs.Calls.{lent-accepts, lent-refuses}
+use Rattle.desk.proofs.Calls.{Stepped, same-step, lent-accepts, lent-refuses}
 
 -- ── a list that is packed
 
@@ -46,10 +46,8 @@ module _ (k n : ℕ) (xs b b′ : List ℕ) (p : Packed k n xs b b′) where
 -- What pass_lent promises.
 abbrev pub Passed : List ℕ → ℕ → List ℕ → List ℕ → List ℕ → List ℕ → Reply → List ℕ → List ℕ → List ℕ → Type 0
 Passed s i d a c b r d′ a′ c′ =
-    (r ≡ answered (call (session s) (pass i) (stateIn d a c b) .answer))
-    × ((stateIn d′ a′ c′ b ≡ call (session s) (pass i) (stateIn d a c b) .state)
-    × ((RestStays 3 d d′ × (RestStays 6 a a′ × RestStays 3 c c′))
-    × (r .number ≢ 0 → (d′ ≡ d) × ((a′ ≡ a) × (c′ ≡ c)))))
+    Stepped answered (call (session s) (pass i) (stateIn d a c b)) r (stateIn d′ a′ c′ b)
+    ((RestStays 3 d d′ × (RestStays 6 a a′ × RestStays 3 c c′)) × (r .number ≢ 0 → (d′ ≡ d) × ((a′ ≡ a) × (c′ ≡ c))))
 
 module _ (s : List ℕ) (i : ℕ) (d a c b : List ℕ) (r : Reply) where
   abbrev σ : State
@@ -57,7 +55,7 @@ module _ (s : List ℕ) (i : ℕ) (d a c b : List ℕ) (r : Reply) where
 
   -- The call's step t leaves the state.
   kept : (t : Step) → call (session s) (pass i) σ ≡ t → t .state ≡ σ → r ≡ answered (t .answer) → Passed s i d a c b r d a c
-  kept t e h er = (er ∙ ap (λ (q : Step). answered (q .answer)) (sym e), (sym (ap (λ (q : Step). q .state) e ∙ h), ((refl, (refl, refl)), λ _. (refl, (refl, refl)))))
+  kept t e h er = same-step answered t _ e r σ (er, (sym h, ((refl, (refl, refl)), λ _. (refl, (refl, refl)))))
 
   -- 6.
   pub passed-not-lent : rightIn s d a c b ≡ false → r ≡ refusedReply 6 → Passed s i d a c b r d a c
@@ -98,13 +96,7 @@ module _ (s : List ℕ) (i : ℕ) (d a c b : List ℕ) (r : Reply) where
           discards = packed-records 3 (o .counts .discards) x′ d d′ pd decodeSurface q;
           actions = packed-records 6 (o .counts .actions) y′ a a′ pa decodeAction q;
           clears = packed-records 3 (o .counts .clears) z′ c c′ pc decodeSurface q;
-        } in (
-          told ∙ ap (λ (q : Step). answered (q .answer)) (sym stepped),
-          (
-            ap (λ (l : Lists). record { lists = l; status = b }) (now ∙ left) ∙ ap (λ (q : Step). q .state) (sym stepped),
-            (
-              (packed-rest 3 (o .counts .discards) x′ d d′ pd, (packed-rest 6 (o .counts .actions) y′ a a′ pa, packed-rest 3 (o .counts .clears) z′ c c′ pc)),
-              λ h. absurd (h (ap (λ (q : Reply). q .number) er ∙ eqb-true (o .reply .verdict .number) 0 fit)),
-            ),
-          ),
-        )
+        } in
+        let rests : RestStays 3 d d′ × (RestStays 6 a a′ × RestStays 3 c c′) = (packed-rest 3 (o .counts .discards) x′ d d′ pd, (packed-rest 6 (o .counts .actions) y′ a a′ pa, packed-rest 3 (o .counts .clears) z′ c c′ pc)) in
+        same-step answered _ _ stepped r (stateIn d′ a′ c′ b)
+        (told, (ap (λ (l : Lists). record { lists = l; status = b }) (now ∙ left), (rests, λ h. absurd (h (ap (λ (q : Reply). q .number) er ∙ eqb-true (o .reply .verdict .number) 0 fit)))))

@@ -69,84 +69,99 @@ struct Seen {
     past_end: u32,
 }
 
-/// One append on records with guards around them: the new count.
-fn append(
-    records: &mut [TextureSurfaceDiscard],
-    n: usize,
-    prng: &mut Prng,
-    seen: &mut Seen,
-) -> usize {
-    let room = records.len() - 2 * GUARD;
-    let before = triples(records);
-    let s = surface(prng);
-    let r = discard(&mut records[GUARD..GUARD + room], n, s);
-    let mut flat = before.clone();
-    if n < room {
-        flat[GUARD + n] = triple(&s);
-        seen.appended += 1;
-    } else {
-        seen.full += 1;
-    }
-    assert_eq!(r, if n < room { n + 1 } else { n });
-    assert_eq!(triples(records), flat);
-    r
+/// A list with guards around its room, and the calls made on it.
+struct Trial {
+    records: Vec<TextureSurfaceDiscard>,
+    prng: Prng,
+    seen: Seen,
 }
 
-/// One compaction likewise.
-fn compact(
-    records: &mut [TextureSurfaceDiscard],
-    n: usize,
-    prng: &mut Prng,
-    seen: &mut Seen,
-) -> usize {
-    let room = records.len() - 2 * GUARD;
-    let before = triples(records);
-    let range = range(prng);
-    let r = retain(&mut records[GUARD..GUARD + room], n, range);
-    let after = triples(records);
-    if n > room {
-        seen.past_end += 1;
-        assert_eq!((r, after), (n, before));
-        return r;
+impl Trial {
+    fn room(&self) -> usize {
+        self.records.len() - 2 * GUARD
     }
-    let mut flat = before[GUARD..GUARD + n].to_vec();
-    flat.retain(|s| !hits(&range, s));
-    assert_eq!(after[GUARD..GUARD + r], flat, "{range:?} of {before:?}");
-    assert_eq!(after[..GUARD], before[..GUARD]);
-    assert_eq!(after[GUARD + n..], before[GUARD + n..]);
-    match r {
-        _ if n == 0 => seen.empty += 1,
-        0 => seen.kept_none += 1,
-        r if r == n => seen.kept_all += 1,
-        _ => seen.kept_some += 1,
+
+    /// Records as they stood before a call on the room, what it answers, and as they stand after it.
+    fn call(
+        &mut self,
+        made: impl FnOnce(&mut [TextureSurfaceDiscard]) -> usize,
+    ) -> (Vec<Triple>, usize, Vec<Triple>) {
+        let room = self.room();
+        let before = triples(&self.records);
+        let r = made(&mut self.records[GUARD..GUARD + room]);
+        (before, r, triples(&self.records))
     }
-    r
+
+    /// One append: the new count.
+    fn append(&mut self, n: usize) -> usize {
+        let room = self.room();
+        let s = surface(&mut self.prng);
+        let (mut flat, r, after) = self.call(|list| discard(list, n, s));
+        if n < room {
+            flat[GUARD + n] = triple(&s);
+            self.seen.appended += 1;
+        } else {
+            self.seen.full += 1;
+        }
+        assert_eq!(r, if n < room { n + 1 } else { n });
+        assert_eq!(after, flat);
+        r
+    }
+
+    /// One compaction likewise.
+    fn compact(&mut self, n: usize) -> usize {
+        let range = range(&mut self.prng);
+        let (before, r, after) = self.call(|list| retain(list, n, range));
+        if n > self.room() {
+            self.seen.past_end += 1;
+            assert_eq!((r, after), (n, before));
+            return r;
+        }
+        let mut flat = before[GUARD..GUARD + n].to_vec();
+        flat.retain(|s| !hits(&range, s));
+        assert_eq!(after[GUARD..GUARD + r], flat, "{range:?} of {before:?}");
+        assert_eq!(after[..GUARD], before[..GUARD]);
+        assert_eq!(after[GUARD + n..], before[GUARD + n..]);
+        match r {
+            _ if n == 0 => self.seen.empty += 1,
+            0 => self.seen.kept_none += 1,
+            r if r == n => self.seen.kept_all += 1,
+            _ => self.seen.kept_some += 1,
+        }
+        r
+    }
 }
 
 #[test]
 fn random_lists_do_not_differ() {
-    let mut prng = Prng::new(10_010);
-    let mut seen = Seen::default();
+    let mut t = Trial {
+        records: Vec::new(),
+        prng: Prng::new(10_010),
+        seen: Seen::default(),
+    };
     for _ in 0..LISTS {
-        let room = prng.below(MOST + 1) as usize;
-        let mut records: Vec<_> = (0..room + 2 * GUARD).map(|_| surface(&mut prng)).collect();
-        let mut n = match prng.below(4) {
+        let room = t.prng.below(MOST + 1) as usize;
+        t.records = (0..room + 2 * GUARD)
+            .map(|_| surface(&mut t.prng))
+            .collect();
+        let mut n = match t.prng.below(4) {
             0 => room,
             1 => 0,
-            _ => prng.below(room as u32 + 1) as usize,
+            _ => t.prng.below(room as u32 + 1) as usize,
         };
         for _ in 0..6 {
-            n = if prng.chance(50) {
-                append(&mut records, n, &mut prng, &mut seen)
+            n = if t.prng.chance(50) {
+                t.append(n)
             } else {
-                compact(&mut records, n, &mut prng, &mut seen)
+                t.compact(n)
             };
         }
-        let past = room + 1 + prng.below(3) as usize;
-        append(&mut records, past, &mut prng, &mut seen);
-        compact(&mut records, past, &mut prng, &mut seen);
-        compact(&mut records, usize::MAX, &mut prng, &mut seen);
+        let past = room + 1 + t.prng.below(3) as usize;
+        t.append(past);
+        t.compact(past);
+        t.compact(usize::MAX);
     }
+    let seen = t.seen;
     let Seen {
         appended,
         full,
