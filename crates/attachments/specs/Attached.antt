@@ -1,13 +1,10 @@
 -- What the structs of this crate say of a pass's attachments.
-use Prim.Native.Nat.{ℕ}
 use mathlib.Core.Path.{_≡_}
 use mathlib.Core.Bool.{true, false}
 use mathlib.Core.List.{List, [], _∷_}
-use lib.Ieee.{Float}
 use Rattle.definition.specs.Session.{Session}
-use Rattle.definition.specs.Channel.{Ops, clearValue}
 use Rattle.definition.specs.Attachments.{Attached, rangeIn, kindOf, discards, divergentOf}
-use Rattle.definition.specs.Pass.{black, zero32, opsBits, attachmentReply, depthReadOnly, stencilReadOnly}
+use Rattle.definition.specs.Pass.{black, zero32, attachmentReply, depthReadOnly, stencilReadOnly}
 use Rattle.definition.specs.declared.Attachment.{Attachment}
 use Rattle.memory_init.specs.Lent.{initKind}
 use Rattle.attachments.specs.declared.Planned.{Planned}
@@ -22,18 +19,6 @@ pub record PlannedAs (p : Planned) (x : Attached) : Type 0 where
 -- A record of a reply that stands for no attachment.
 abbrev pub blank : Attachment
 blank = record { view = 0; usage = 0; ops = 0; «stencil_ops» = 0; color = black; depth = zero32; stencil = 0 }
-
--- What a depth-stencil attachment of this usage and these channels replies.
-abbrev pub depthStencilIn : ℕ → ℕ → Ops Float → Ops ℕ → Attachment
-depthStencilIn k usage d s = record {
-  view = k;
-  usage = usage;
-  ops = opsBits d;
-  «stencil_ops» = opsBits s;
-  color = black;
-  depth = clearValue zero32 (d .load);
-  stencil = clearValue 0 (s .load);
-}
 
 -- d is the depth-stencil attachment x.
 pub record Present (S : Session) (d : DepthStencilPart) (x : Attached) : Type 0 where

@@ -34,11 +34,11 @@ ghost use Rattle.definition.specs.Formats.{hasDepth, hasStencil};
 ghost use Rattle.definition.specs.Session as Se;
 ghost use Rattle.definition.specs.Session.{Session, session};
 ghost use Rattle.definition.specs.Attachments as At;
-ghost use Rattle.definition.specs.Pass.{attachmentReply, depthStencilUsage};
+ghost use Rattle.definition.specs.Pass.{attachmentReply, depthStencilUsage, depthStencilReply};
 ghost use Rattle.definition.specs.declared.Range as Ra;
 ghost use Rattle.depth_channel.specs.Depth as De;
 ghost use Rattle.stencil_channel.specs.Stencil as St;
-ghost use Rattle.attachments.specs.Attached.{PlannedAs, Present, Absent, PartOf, blank, depthStencilIn};
+ghost use Rattle.attachments.specs.Attached.{PlannedAs, Present, Absent, PartOf, blank};
 
 // What an attachment does to the lists: of its surfaces, the action that it registers and whether it lists a discard.
 pub struct Planned {
@@ -110,7 +110,7 @@ fn depth_stencil_reply(
     depth: ResolvedDepth,
     stencil: ResolvedStencil,
 ) -> Attachment
-    ensures { λ r. ⌜ r ≡ depthStencilIn k usage (De.opsIn depth) (St.opsIn stencil) ⌝ }
+    ensures { λ r. ⌜ r ≡ depthStencilReply k usage (De.opsIn depth) (St.opsIn stencil) ⌝ }
 {
     Attachment {
         view: k,

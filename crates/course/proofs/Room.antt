@@ -1,8 +1,8 @@
 -- What a course tells of a whole pass: numbers 49 and 50, and the room of every step, since actions only grow and clears come from discards.
-use Prim.Native.Nat.{ℕ, _+_, _≤_}
+use Prim.Native.Nat.{ℕ, _≤_}
 use native.Mathlib.Omega.{arith}
 use mathlib.Core.Path.{_≡_, refl, sym, ap, subst, _∙_}
-use mathlib.Core.Bool.{Bool, true, false, _&&_}
+use mathlib.Core.Bool.{Bool, true, false, _&&_, and-true}
 use mathlib.Core.List.{List, [], _∷_, _++_, map}
 use mathlib.Core.Option.{Option, none, some}
 use lib.Dec.{leb}
@@ -35,10 +35,6 @@ pub tracks-attach : (c : Course) (copy : List ℕ) (xs : List Attached) (x : Att
 tracks-attach c copy xs x l t =
     subst (λ q. Tracks c copy q (attachAll (xs ++ (x ∷ [])) l)) (sym (fit-append xs (x ∷ []) l ∙ ap (λ q. discardsFit xs l && q) (and-true _)))
     (subst (Tracks c copy (discardsFit xs l && leb (length (attach x (attachAll xs l) .discards)) maxDiscards)) (sym (attach-append xs (x ∷ []) l)) t)
-  where
-    and-true : (b : Bool) → (b && true) ≡ b
-    and-true true = refl
-    and-true false = refl
 
 -- After a refusal the next check plays no part.
 stopped : (v w : Verdict) → unless false 49 nowhere then v ≡ unless false 49 nowhere then w
@@ -74,16 +70,21 @@ discard-grows : (r : Range) (b : Bool) (l : Lists) → length (l .actions) ≤ l
 discard-grows r true l = omega arith
 discard-grows r false l = omega arith
 
--- Actions only grow.
-pub actions-grow : (xs : List Attached) (l : Lists) → length (l .actions) ≤ length (attachAll xs l .actions)
-actions-grow [] l = omega arith
-actions-grow (x ∷ xs) l =
+-- A size that grows with each registration and each discard grows with attachments.
+pub attach-grows : (size : Lists → ℕ) → ((r : Range) (k : Option MemoryInitKind) (l : Lists) → size l ≤ size (registered r k l))
+    → ((r : Range) (b : Bool) (l : Lists) → size l ≤ size (discarded r b l)) → (xs : List Attached) (l : Lists) → size l ≤ size (attachAll xs l)
+attach-grows size register discard [] l = omega arith
+attach-grows size register discard (x ∷ xs) l =
     omega (
       arith,
-      register-grows (rangeIn x) (kindOf x) l,
-      discard-grows (rangeIn x) (discards x) (registered (rangeIn x) (kindOf x) l),
-      actions-grow xs (attach x l),
+      register (rangeIn x) (kindOf x) l,
+      discard (rangeIn x) (discards x) (registered (rangeIn x) (kindOf x) l),
+      attach-grows size register discard xs (attach x l),
     )
+
+-- Actions only grow.
+pub actions-grow : (xs : List Attached) (l : Lists) → length (l .actions) ≤ length (attachAll xs l .actions)
+actions-grow = attach-grows (λ l. length (l .actions)) register-grows discard-grows
 
 -- The lists have room in the lent lists.
 pub record Fit (l : Lists) : Type 0 where

@@ -3,7 +3,7 @@ use Prim.Native.Nat.{ℕ, _+_, _-_, _*_, _≤_, _<_}
 use native.Mathlib.Omega.{arith}
 use native.Mathlib.Numerals.{add-one}
 use mathlib.Core.Path.{_≡_, refl, sym, ap, subst, _∙_}
-use mathlib.Core.Bool.{Bool, true, false, not, _&&_}
+use mathlib.Core.Bool.{Bool, true, false, not, _&&_, and-true, and-false}
 use mathlib.Core.List.{List, [], _∷_, _++_, map}
 use lib.Dec.{leb}
 use lib.ListN.{length, take, getD, set, length-append, length-map}
@@ -11,7 +11,7 @@ use lib.Seq.{take-suc, take-suc-set}
 use borrow.Author.Tests.{leb-true, leb-false, le-leb, lt-leb}
 use Rattle.definition.specs.Sizes.{maxDiscards, maxActions}
 use Rattle.definition.specs.Surfaces.{hits, firstOf}
-use Rattle.definition.specs.MemoryInit.{Lists, implicitAt, matching, others, registerInitAction, registered, discarded}
+use Rattle.definition.specs.MemoryInit.{Lists, implicitAt, matching, others, registerInitAction, discarded}
 use Rattle.definition.specs.Pass.{newPass}
 use Rattle.definition.specs.declared.Surface.{Surface}
 use Rattle.definition.specs.declared.Range.{Range}
@@ -101,36 +101,22 @@ module _ (c : Course) (copy : List ℕ) (ok : Bool) (l : Lists) (t : Tracks c co
       go true e = ap (λ x. ok && x) (h e)
       go false e = ap (λ x. x && b) e ∙ sym (ap (λ x. x && b′) e)
 
-  and-true : (ok && true) ≡ ok
-  and-true = go ok
-    where
-      go : (q : Bool) → (q && true) ≡ q
-      go true = refl
-      go false = refl
-
-  and-false : (ok && false) ≡ false
-  and-false = go ok
-    where
-      go : (q : Bool) → (q && false) ≡ false
-      go true = refl
-      go false = refl
-
   -- Without a discard every entry still has its place.
   pub tracks-same : Tracks c copy (ok && leb (length (l .discards)) maxDiscards) l
-  tracks-same = subst (λ q. Tracks c copy q l) (sym (fit-off _ true (λ h. le-leb (length (l .discards)) maxDiscards (omega (arith, held-length h, t .small))) ∙ and-true)) t
+  tracks-same = subst (λ q. Tracks c copy q l) (sym (fit-off _ true (λ h. le-leb (length (l .discards)) maxDiscards (omega (arith, held-length h, t .small))) ∙ and-true ok)) t
 
   pub tracks-full : (r : Range) → maxDiscards ≤ c .held
       → Tracks (courseAt (c .held) (c .actions) false) copy (ok && leb (length (discarded r true l .discards)) maxDiscards) (discarded r true l)
   tracks-full r full =
       let none : (ok && leb (length (discarded r true l .discards)) maxDiscards) ≡ false =
-      fit-off _ false (λ h. lt-leb (length (discarded r true l .discards)) maxDiscards (omega (arith, listed-length r h))) ∙ and-false in
+      fit-off _ false (λ h. lt-leb (length (discarded r true l .discards)) maxDiscards (omega (arith, listed-length r h))) ∙ and-false ok in
       record { fits = sym none; small = t .small; discards = λ h. clash h none; actions = λ h. clash h none }
 
   pub tracks-discard : (r : Range) (s : Surface) (copy′ : List ℕ) (x : ℕ) → c .held < maxDiscards → s ≡ firstOf r → Appended 3 decodeSurface (c .held) (s ∷ []) copy copy′ x
       → Tracks (courseAt x (c .actions) (c .fits)) copy′ (ok && leb (length (discarded r true l .discards)) maxDiscards) (discarded r true l)
   tracks-discard r s copy′ x room named listed =
       let fit : (ok && leb (length (discarded r true l .discards)) maxDiscards) ≡ ok =
-      fit-off _ true (λ h. le-leb (length (discarded r true l .discards)) maxDiscards (omega (arith, listed-length r h))) ∙ and-true in
+      fit-off _ true (λ h. le-leb (length (discarded r true l .discards)) maxDiscards (omega (arith, listed-length r h))) ∙ and-true ok in
       record {
         fits = t .fits ∙ sym fit;
         small = omega (arith, append-count 3 decodeSurface (c .held) x (s ∷ []) copy copy′ listed);

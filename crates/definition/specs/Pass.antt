@@ -53,16 +53,20 @@ depthStencilUsage S v d s = cond (d && s && readOnlyDepthStencil S) (cond (textu
 abbrev pub opsBits : {X : Type 0} → Ops X → ℕ
 opsBits c = loadBits (c .load) + storeBits (c .keep)
 
-abbrev pub attachmentReply : Session → Attached → Attachment
-attachmentReply S (depthStencil v r hd hs d s) = record {
+-- A depth-stencil attachment, by its view, usage and channels.
+abbrev pub depthStencilReply : ℕ → ℕ → Ops Float → Ops ℕ → Attachment
+depthStencilReply v usage d s = record {
   view = v;
-  usage = depthStencilUsage S (S .view v) (d .readOnly) (s .readOnly);
+  usage = usage;
   ops = opsBits d;
   «stencil_ops» = opsBits s;
   color = black;
   depth = clearValue zero32 (d .load);
   stencil = clearValue 0 (s .load);
 }
+
+abbrev pub attachmentReply : Session → Attached → Attachment
+attachmentReply S (depthStencil v r hd hs d s) = depthStencilReply v (depthStencilUsage S (S .view v) (d .readOnly) (s .readOnly)) d s
 attachmentReply S (color v r c) = record
     { view = v; usage = 1; ops = opsBits c; «stencil_ops» = 0; color = clearValue black (c .load); depth = zero32; stencil = 0 }
 attachmentReply S (resolveTo v r) = record

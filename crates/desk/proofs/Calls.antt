@@ -47,6 +47,11 @@ Stepped read t r σ Rest = (r ≡ read (t .answer)) × ((σ ≡ t .state) × Res
 pub same-step : {X Rest : Type 0} (read : Answer → X) (t u : Step) → u ≡ t → (r : X) (σ : State) → Stepped read t r σ Rest → Stepped read u r σ Rest
 same-step read t u e r σ (told, (left, rest)) = (told ∙ ap (λ (q : Step). read (q .answer)) (sym e), (left ∙ ap (λ (q : Step). q .state) (sym e), rest))
 
+-- Long buffers and a session that is read: the call itself.
+pub entry-call : (s : List ℕ) (k : Call) (d a c b : List ℕ) → short d a c b ≡ false → sessionRefusal s ≡ 0 → entry s k d a c b ≡ call (session s) k (stateIn d a c b)
+unfolding entry
+entry-call s k d a c b h g = cond-off (short d a c b) _ _ h ∙ cond-on (eqb (sessionRefusal s) 0) _ _ (eq-eqb (sessionRefusal s) 0 g)
+
 -- A refusal leaves the state.
 refused-state : (n : ℕ) (k : Call) (σ : State) → σ ≡ refusedCall n k σ .state
 refused-state n (pass i) σ = refl
@@ -67,10 +72,7 @@ module _ {X Rest : Type 0} (read : Answer → X) (s : List ℕ) (k : Call) (d a 
       r (stateIn d a c b) (told, (refused-state (sessionRefusal s) k (stateIn d a c b), rest))
 
   pub entry-lent : (σ : State) → short d a c b ≡ false → sessionRefusal s ≡ 0 → Stepped read (call (session s) k (stateIn d a c b)) r σ Rest → Stepped read (entry s k d a c b) r σ Rest
-  unfolding entry
-  entry-lent σ h g made =
-      same-step read (call (session s) k (stateIn d a c b)) (entry s k d a c b)
-      (cond-off (short d a c b) _ _ h ∙ cond-on (eqb (sessionRefusal s) 0) _ _ (eq-eqb (sessionRefusal s) 0 g)) r σ made
+  entry-lent σ h g made = same-step read (call (session s) k (stateIn d a c b)) (entry s k d a c b) (entry-call s k d a c b h g) r σ made
 
 -- ── the whole session
 

@@ -30,7 +30,7 @@ use Rattle.render.proofs.Reply.{attachments-most}
 use Rattle.desk.specs.declared.reply.Reply as C
 use Rattle.desk.specs.Entry.{numberIn}
 use Rattle.desk.specs.Reply.{answered}
-use Rattle.desk.proofs.Calls.{entry-lent, lent-accepts}
+use Rattle.desk.proofs.Calls.{entry-call, lent-accepts}
 use Rattle.noninterference.specs.Memory.{events, byteOf, loaded, cells}
 use Rattle.noninterference.specs.Claim.{submittedFrom, lastUse, kept, Agree, Hidden}
 use Rattle.noninterference.proofs.Theorem.{demand-three, first-answers, never-six}
@@ -146,7 +146,7 @@ module _ (s : List ℕ) (ok : sessionRefusal s ≡ 0) where
     k = callOf (t .told)
 
     step : entryOf s k b ≡ call (session s) k σ
-    step = entry-lent s k (b .discards) (b .actions) (b .clears) (b .status) h ok ∙ ap (call (session s) k) e
+    step = entry-call s k (b .discards) (b .actions) (b .clears) (b .status) h ok ∙ ap (call (session s) k) e
 
     left : heldIn (t .left) ≡ call (session s) k σ .state
     left = p .leaves ∙ ap (λ (q : Step). q .state) step
@@ -192,7 +192,7 @@ pub never-six-of-calls : NeverSixOfCalls
 never-six-of-calls s ok b h ts r n k =
     let run = from-fresh s ok b h ts r in
     let β : Buffers = buffersAfter b ts n in
-    entry-lent s k (β .discards) (β .actions) (β .clears) (β .status) (run .long n) ok
+    entry-call s k (β .discards) (β .actions) (β .clears) (β .status) (run .long n) ok
     ∙ lent-accepts s k (β .discards) (β .actions) (β .clears) (β .status) (ap (lentRight (session s)) (run .states n) ∙ never-six s ok (take n (callsOf ts)))
 
 pub demand-three-of-calls : DemandThreeOfCalls

@@ -1,6 +1,6 @@
 -- Laws of number 6 of records: a list is right where its parts are, and a surface of the session is a range of it.
-use mathlib.Core.Path.{_≡_, refl, ap, _∙_}
-use mathlib.Core.Bool.{Bool, true, false, _&&_, cond}
+use mathlib.Core.Path.{_≡_, refl, sym, ap, _∙_}
+use mathlib.Core.Bool.{Bool, true, false, _&&_, cond, and-assoc}
 use mathlib.Core.List.{List, [], _∷_, _++_, map}
 use native.Mathlib.Omega.{arith}
 use Rattle.definition.specs.Surfaces.{firstOf, onlyRange}
@@ -15,19 +15,15 @@ use Rattle.laws.proofs.Tests.{and-left, and-right, and-on}
 use Rattle.laws.proofs.Surfaces.{surface-inside, inside-surface, range-inside, inside-range}
 use Rattle.laws.proofs.Views.{range-first}
 
-and-assoc : (a b c : Bool) → (a && (b && c)) ≡ ((a && b) && c)
-and-assoc true b c = refl
-and-assoc false b c = refl
-
 module _ (S : Session) where
   -- Records of two lists.
   pub surfaces-append : (a b : List Surface) → surfacesRight S (a ++ b) ≡ (surfacesRight S a && surfacesRight S b)
   surfaces-append [] b = refl
-  surfaces-append (x ∷ a) b = ap (λ q. surfaceRight S x && q) (surfaces-append a b) ∙ and-assoc (surfaceRight S x) (surfacesRight S a) (surfacesRight S b)
+  surfaces-append (x ∷ a) b = ap (λ q. surfaceRight S x && q) (surfaces-append a b) ∙ sym (and-assoc (surfaceRight S x) (surfacesRight S a) (surfacesRight S b))
 
   pub actions-append : (a b : List Action) → actionsRight S (a ++ b) ≡ (actionsRight S a && actionsRight S b)
   actions-append [] b = refl
-  actions-append (x ∷ a) b = ap (λ q. rangeRight S (x .range) && q) (actions-append a b) ∙ and-assoc (rangeRight S (x .range)) (actionsRight S a) (actionsRight S b)
+  actions-append (x ∷ a) b = ap (λ q. rangeRight S (x .range) && q) (actions-append a b) ∙ sym (and-assoc (rangeRight S (x .range)) (actionsRight S a) (actionsRight S b))
 
   -- Records that pass a test.
   pub surfaces-retain : (f : Surface → Bool) (d : List Surface) → surfacesRight S d ≡ true → surfacesRight S (retain f d) ≡ true

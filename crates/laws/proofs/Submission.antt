@@ -58,43 +58,20 @@ acts-most (x ∷ a) s b h = acts-most a s (actAt x s b) (go (hits (x .range) s))
 
 -- ── one byte through a submission
 
+-- Emptied or not, a byte at which a submission begins is not marked as cleared.
+restart-clean : (q : Bool) (b : ℕ) → cleared (cond q (emptyByte (restart b)) (restart b)) ≡ false
+restart-clean true b = cleared-empty (restart b) ∙ cleared-restart b
+restart-clean false b = cleared-restart b
+
 -- A submission clears no filled surface.
 pub after-spares : (a : List Action) (d : List Surface) (s : Surface) (b : ℕ) → filled b ≡ true → cleared (byteAfter a d s b) ≡ false
 unfolding byteAfter
-after-spares a d s b h = rw (acts-filled a s (restart b) (filled-restart b ∙ h)) (go (elem s d))
-  where
-    go : (q : Bool) → cleared (cond q (emptyByte (restart b)) (restart b)) ≡ false
-    go true = cleared-empty (restart b) ∙ cleared-restart b
-    go false = cleared-restart b
+after-spares a d s b h = rw (acts-filled a s (restart b) (filled-restart b ∙ h)) (restart-clean (elem s d) b)
 
 -- A submission with no actions leaves no surface marked as cleared: it forgets the 2 of an earlier one.
 pub after-forgets : (d : List Surface) (s : Surface) (b : ℕ) → cleared (byteAfter [] d s b) ≡ false
 unfolding byteAfter
-after-forgets d s b = go (elem s d)
-  where
-    go : (q : Bool) → cleared (cond q (emptyByte (restart b)) (restart b)) ≡ false
-    go true = cleared-empty (restart b) ∙ cleared-restart b
-    go false = cleared-restart b
-
--- What a submission leaves goes by what is filled alone.
-pub restart-by : (b c : ℕ) → filled b ≡ filled c → restart b ≡ restart c
-unfolding filled restart
-restart-by zero zero h = refl
-restart-by zero (suc zero) h = clash {b = false} h refl
-restart-by zero (suc (suc zero)) h = refl
-restart-by zero (suc (suc (suc m))) h = clash {b = false} h refl
-restart-by (suc zero) zero h = clash {b = true} refl h
-restart-by (suc zero) (suc zero) h = refl
-restart-by (suc zero) (suc (suc zero)) h = clash {b = true} refl h
-restart-by (suc zero) (suc (suc (suc m))) h = refl
-restart-by (suc (suc zero)) zero h = refl
-restart-by (suc (suc zero)) (suc zero) h = clash {b = false} h refl
-restart-by (suc (suc zero)) (suc (suc zero)) h = refl
-restart-by (suc (suc zero)) (suc (suc (suc m))) h = clash {b = false} h refl
-restart-by (suc (suc (suc n))) zero h = clash {b = true} refl h
-restart-by (suc (suc (suc n))) (suc zero) h = refl
-restart-by (suc (suc (suc n))) (suc (suc zero)) h = clash {b = true} refl h
-restart-by (suc (suc (suc n))) (suc (suc (suc m))) h = refl
+after-forgets d s b = restart-clean (elem s d) b
 
 pub after-most : (a : List Action) (d : List Surface) (s : Surface) (b : ℕ) → byteAfter a d s b ≤ 3
 unfolding byteAfter

@@ -34,16 +34,16 @@ same-ne a b h = bool-iff _ _ (λ e. absurd (h (same-eq a b e))) (λ e. clash {b 
 
 -- ── one of n numbers
 
-within-low : (a n x : ℕ) → within a n x ≡ true → a ≤ x
+low-within : (a n x : ℕ) → within a n x ≡ true → a ≤ x
 unfolding within
-within-low a n x h = leb-true a x (and-left (leb a x) (ltb x (a + n)) h)
+low-within a n x h = leb-true a x (and-left (leb a x) (ltb x (a + n)) h)
 
-within-high : (a n x : ℕ) → within a n x ≡ true → x < a + n
+high-within : (a n x : ℕ) → within a n x ≡ true → x < a + n
 unfolding within
-within-high a n x h = ltb-true x (a + n) (and-right (leb a x) (ltb x (a + n)) h)
+high-within a n x h = ltb-true x (a + n) (and-right (leb a x) (ltb x (a + n)) h)
 
 pub within-none : (a x : ℕ) → within a 0 x ≡ false
-within-none a x = bool-iff _ _ (λ h. absurd (omega (arith, within-low a 0 x h, within-high a 0 x h))) (λ h. clash {b = false} h refl)
+within-none a x = bool-iff _ _ (λ h. absurd (omega (arith, low-within a 0 x h, high-within a 0 x h))) (λ h. clash {b = false} h refl)
 
 pub within-one : (a x : ℕ) → within a 1 x ≡ eqb x a
 unfolding within
@@ -81,10 +81,10 @@ hits-in r s h =
     let test = each (eqb (s .texture) (r .texture) ∷ within (r .mip) (r .mips) (s .mip) ∷ within (r .layer) (r .layers) (s .layer) ∷ []) h in
     record {
       texture = eqb-true (s .texture) (r .texture) (test 0);
-      mip-low = within-low (r .mip) (r .mips) (s .mip) (test 1);
-      mip-high = within-high (r .mip) (r .mips) (s .mip) (test 1);
-      layer-low = within-low (r .layer) (r .layers) (s .layer) (test 2);
-      layer-high = within-high (r .layer) (r .layers) (s .layer) (test 2);
+      mip-low = low-within (r .mip) (r .mips) (s .mip) (test 1);
+      mip-high = high-within (r .mip) (r .mips) (s .mip) (test 1);
+      layer-low = low-within (r .layer) (r .layers) (s .layer) (test 2);
+      layer-high = high-within (r .layer) (r .layers) (s .layer) (test 2);
     }
 
 -- A range of one mip and one layer has its first surface alone; a surface's own range has that surface alone.

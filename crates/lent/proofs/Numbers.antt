@@ -1,12 +1,12 @@
 -- What is written is read back, and what stands elsewhere stays.
-use mathlib.Core.Path.{_≡_, refl, sym, ap, ap₂, _∙_}
+use mathlib.Core.Path.{_≡_, refl, sym, ap₂, _∙_}
 use mathlib.Core.Logic.{_≢_}
 use mathlib.Core.List.{List, [], _∷_, _++_}
 use mathlib.Core.Bool.{Bool, true, false, cond}
 use Prim.Native.Nat.{ℕ, zero, suc, _+_, _*_, _/_, _%_, _^_, _≤_, _<_}
 use native.Mathlib.Omega.{arith}
 use lib.Dec.{leb}
-use lib.ListN.{length, take, drop, getD, length-set, length-append}
+use lib.ListN.{length, take, drop, getD, length-append}
 use lib.Seq.{getD-set-other, drop-set-lt, take-suc, take-all}
 use Rattle.definition.specs.Bytes.{u32At}
 use Rattle.wire.specs.Writing.{putBytes, putNumber}
@@ -98,7 +98,7 @@ numbers-read b at xs (suc n) h l small =
     ∙ sym (take-suc xs n 0 (omega arith))
 
 -- So many numbers are read as are asked for.
-length-numbers : (b : List ℕ) (at n : ℕ) → length (numbersAt b at n) ≡ n
+pub length-numbers : (b : List ℕ) (at n : ℕ) → length (numbersAt b at n) ≡ n
 unfolding numbersAt
 length-numbers b at zero = refl
 length-numbers b at (suc n) = length-append (numbersAt b at n) (u32At b (at + 4 * n) ∷ []) ∙ omega (arith, length-numbers b at n)

@@ -1,20 +1,25 @@
 -- The theorem applied to a file, the memory computed on small runs, and three sessions outside the theorem of which the claim is false.
-use mathlib.Core.Path.{_≡_, refl}
+use mathlib.Core.Path.{_≡_, refl, sym, _∙_}
 use mathlib.Core.Logic.{_≢_}
-use mathlib.Core.Bool.{true, false}
+use mathlib.Core.Bool.{Bool, true, false, not}
 use mathlib.Core.List.{List, [], _∷_}
+use mathlib.Core.Option.{none}
 use Prim.Native.Nat.{ℕ, zero, suc, _+_, _<_}
 use native.Mathlib.Omega.{arith}
+use lib.ListN.{take}
 use Rattle.definition.specs.Sizes.{noView}
 use Rattle.definition.specs.Surfaces.{surfaceAt}
 use Rattle.definition.specs.Session.{session}
 use Rattle.definition.specs.Readable.{sessionRefusal}
+use Rattle.definition.specs.Status.{filled}
 use Rattle.definition.specs.Calls.{Call, pass, submit}
 use Rattle.definition.specs.Computing.{computing}
 use Rattle.definition.specs.Files.{texture, view, channel, sliceSlot, slot, colors, depthStencil, file}
+use Rattle.definition.specs.declared.Surface.{Surface}
+use Rattle.laws.specs.Surfaces.{Inside}
 use Rattle.laws.proofs.Tests.{clash}
 use Rattle.noninterference.specs.Memory.{colorAspect, stencilAspect, Drawing, Contents}
-use Rattle.noninterference.specs.Claim.{loadedBy, memoryAfter, Claim}
+use Rattle.noninterference.specs.Claim.{byteAt, submittedPasses, lastUse, kept, loadedBy, memoryAfter, Claim}
 use Rattle.noninterference.proofs.Theorem.{demand-three}
 
 -- ── inside the theorem
@@ -88,6 +93,16 @@ pub record Fails (s : List ℕ) : Type 1 where
   pub readable : sessionRefusal s ≡ 0
   pub fails : Claim (session s) → ⊥
 
+not-opposite : (b : Bool) → b ≡ not b → ⊥
+not-opposite true h = clash {b = true} refl h
+not-opposite false h = clash {b = false} h refl
+
+-- After the first n calls the surface x is marked otherwise than the last pass kept it.
+marked-wrong : (s : List ℕ) (calls : List Call) (n : ℕ) (x : Surface) (b : Bool) → sessionRefusal s ≡ 0 → Inside (session s) x
+    → filled (byteAt (session s) (take n calls) x) ≡ b → kept (lastUse none (submittedPasses (session s) (take n calls)) x) ≡ not b → Fails s
+marked-wrong s calls n x b ok inside marked left =
+    record { readable = ok; fails = λ claim. not-opposite b (sym marked ∙ claim ℕ drawing contents contents calls .marks n x inside ∙ left) }
+
 -- Not strict: depth Clear and stencil DontCare, both stored, registers nothing, so the surface is not marked filled.
 abbrev looseFile : List ℕ
 looseFile =
@@ -95,12 +110,7 @@ looseFile =
 
 pub not-loose : Fails looseFile
 unfolding computing
-not-loose = record {
-  readable = refl;
-  fails = λ claim.
-      let h : false ≡ true = claim ℕ drawing contents contents (pass 0 ∷ submit ∷ []) .marks 2 (surfaceAt 0 0 0) (record { texture = omega arith; mip = omega arith; layer = omega arith }) in
-      clash h refl;
-}
+not-loose = marked-wrong looseFile (pass 0 ∷ submit ∷ []) 2 (surfaceAt 0 0 0) false refl (record { texture = omega arith; mip = omega arith; layer = omega arith }) refl refl
 
 -- Two layers: a discard names the first layer alone, so the second stays marked filled.
 abbrev layersFile : List ℕ
@@ -109,12 +119,7 @@ layersFile =
 
 pub not-layers : Fails layersFile
 unfolding computing
-not-layers = record {
-  readable = refl;
-  fails = λ claim.
-      let h : true ≡ false = claim ℕ drawing contents contents (pass 0 ∷ submit ∷ pass 1 ∷ submit ∷ []) .marks 4 (surfaceAt 0 0 1) (record { texture = omega arith; mip = omega arith; layer = omega arith }) in
-      clash {b = true} refl h;
-}
+not-layers = marked-wrong layersFile (pass 0 ∷ submit ∷ pass 1 ∷ submit ∷ []) 4 (surfaceAt 0 0 1) true refl (record { texture = omega arith; mip = omega arith; layer = omega arith }) refl refl
 
 -- A 3D texture: two slices are one surface. Clear with Discard of the first, Clear with Store of the second, and the discard is gone.
 abbrev slicesFile : List ℕ
@@ -123,9 +128,4 @@ slicesFile =
 
 pub not-slices : Fails slicesFile
 unfolding computing
-not-slices = record {
-  readable = refl;
-  fails = λ claim.
-      let h : true ≡ false = claim ℕ drawing contents contents (pass 0 ∷ submit ∷ []) .marks 2 (surfaceAt 0 0 0) (record { texture = omega arith; mip = omega arith; layer = omega arith }) in
-      clash {b = true} refl h;
-}
+not-slices = marked-wrong slicesFile (pass 0 ∷ submit ∷ []) 2 (surfaceAt 0 0 0) true refl (record { texture = omega arith; mip = omega arith; layer = omega arith }) refl refl

@@ -1,16 +1,16 @@
 -- The bits of a are among those of b exactly where a & b is a: the lowest bit by itself, and the others of the halves.
 use mathlib.Core.Path.{_≡_, refl, sym, ap, _∙_}
 use mathlib.Core.Logic.{_≢_}
-use mathlib.Core.Bool.{Bool, true, false, not, _&&_, _||_}
-use Prim.Native.Nat.{ℕ, zero, suc, _+_, _*_, _/_, _%_, _^_, _≤_, _<_, min}
+use mathlib.Core.Bool.{Bool, true, false, not, _&&_, _||_, and-true, and-assoc}
+use Prim.Native.Nat.{ℕ, zero, suc, _+_, _*_, _/_, _%_, _^_, _<_, min}
 use native.Mathlib.Omega.{arith}
 use native.Mathlib.Nat.{div-div-eq-div-mul, mul-comm, pow-suc}
 use lib.Dec.{leb, eqb}
 use lib.Bits.{bitAnd, and-step}
-use borrow.Author.Tests.{eqb-true, eqb-false, eq-eqb, ne-eqb, leb-true, leb-false}
+use borrow.Author.Tests.{eqb-true, eqb-false, eq-eqb, ne-eqb, leb-true}
 use Rattle.definition.specs.Bytes.{bit}
 use Rattle.definition.specs.Readable.{bitsBelow, usageAmong}
-use Rattle.laws.proofs.Tests.{clash, bool-iff, and-on, and-left, and-right, or-on-left, or-on-right, implies-on, not-on}
+use Rattle.laws.proofs.Tests.{bool-iff, and-on, and-left, and-right, or-on-left, or-on-right, implies-on, not-on}
 
 -- Bit n of a is one of b.
 abbrev among : ℕ → ℕ → ℕ → Bool
@@ -22,18 +22,10 @@ bit-half a n =
     let halved : a / 2 ^ suc n ≡ a / 2 / 2 ^ n = ap (λ m. a / m) (pow-suc 2 n ∙ mul-comm (2 ^ n) 2) ∙ sym (div-div-eq-div-mul a 2 (2 ^ n)) in
     ap (λ m. eqb (m % 2) 1) halved
 
-and-true : (a : Bool) → a ≡ (a && true)
-and-true true = refl
-and-true false = refl
-
-and-assoc : (a b c : Bool) → ((a && b) && c) ≡ (a && (b && c))
-and-assoc true b c = refl
-and-assoc false b c = refl
-
 -- The lowest bit apart.
 lowest : (a b n : ℕ) → bitsBelow a b (suc n) ≡ (among a b 0 && bitsBelow (a / 2) (b / 2) n)
 unfolding bitsBelow
-lowest a b zero = and-true (among a b 0)
+lowest a b zero = sym (and-true (among a b 0))
 lowest a b (suc n) =
     ap (λ x. x && among a b (suc n)) (lowest a b n)
     ∙ and-assoc (among a b 0) (bitsBelow (a / 2) (b / 2) n) (among a b (suc n))

@@ -9,6 +9,7 @@ use native.Mathlib.Omega.{arith}
 use lib.Dec.{leb, ltb, eqb}
 use lib.ListN.{length, getD}
 use borrow.Author.Tests.{leb-true, ltb-true, eqb-true}
+use Rattle.definition.specs.Sizes.{headerBytes, maxTextures, maxViews, maxPasses, maxSlots, maxMultiviews, maxFlags, maxSize, maxLayers, maxMips, maxUsage, maxSurfaces}
 use Rattle.definition.specs.Formats.{isFormat}
 use Rattle.definition.specs.Session.{Pass, Session, session, textureCount, textureOffset, viewCount, viewOffset, passCount, passOffset, maxColors, maxMultiview, flags, totalLength, viewStart, passStart, passEnd, isNone, arrayLayers, surfaceCount}
 use Rattle.definition.specs.Readable.{between, lengthRight, headerRight, samplesRight, textureRight, texturesRead, texturesRight, viewsRight, sessionRefusal, channelReads, depthStencilReads, resolveReads, slotReads, slotsRead, passReads}
@@ -47,45 +48,45 @@ within : (low high n : ℕ) → between low high n ≡ true → (low ≤ n) × (
 unfolding between
 within low high n e = (leb-true low n (and-left (leb low n) (leb n high) e), leb-true n high (and-right (leb low n) (leb n high) e))
 
--- One layer, or 1 to 32.
-layered : (t : Texture) → (1 ≤ t .depth) × (t .depth ≤ 32) → (1 ≤ arrayLayers t) × (arrayLayers t ≤ 32)
+-- One layer, or as many as the texture is deep.
+layered : (t : Texture) → (1 ≤ t .depth) × (t .depth ≤ maxLayers) → (1 ≤ arrayLayers t) × (arrayLayers t ≤ maxLayers)
 unfolding arrayLayers
 layered t h = go (eqb (t .dimension) 3)
   where
-    go : (b : Bool) → (1 ≤ cond b 1 (t .depth)) × (cond b 1 (t .depth) ≤ 32)
+    go : (b : Bool) → (1 ≤ cond b 1 (t .depth)) × (cond b 1 (t .depth) ≤ maxLayers)
     go true = (omega arith, omega arith)
     go false = h
 
 abbrev textureTests : Texture → List Bool
 textureTests t =
     isFormat (t .format) ∷ between 1 3 (t .dimension) ∷ (ltb (t .format) 20 || eqb (t .dimension) 2)
-    ∷ between 1 16384 (t .width) ∷ between 1 16384 (t .height) ∷ between 1 32 (t .depth)
-    ∷ between 1 15 (t .mips) ∷ samplesRight (t .samples) ∷ leb (t .usage) 63 ∷ []
+    ∷ between 1 maxSize (t .width) ∷ between 1 maxSize (t .height) ∷ between 1 maxLayers (t .depth)
+    ∷ between 1 maxMips (t .mips) ∷ samplesRight (t .samples) ∷ leb (t .usage) maxUsage ∷ []
 
 pub valid-texture : (t : Texture) → textureRight t ≡ true → ValidTexture t
 unfolding textureRight
 valid-texture t e =
     let test = each (textureTests t) e in
-    let depth = within 1 32 (t .depth) (test 5) in
+    let depth = within 1 maxLayers (t .depth) (test 5) in
     record {
       format = test 0;
       dimension = within 1 3 (t .dimension) (test 1);
-      width = within 1 16384 (t .width) (test 3);
-      height = within 1 16384 (t .height) (test 4);
+      width = within 1 maxSize (t .width) (test 3);
+      height = within 1 maxSize (t .height) (test 4);
       depth = depth;
-      mips = within 1 15 (t .mips) (test 6);
+      mips = within 1 maxMips (t .mips) (test 6);
       layers = layered t depth;
       samples = test 7;
-      usage = leb-true (t .usage) 63 (test 8);
+      usage = leb-true (t .usage) maxUsage (test 8);
     }
 
 -- ── the session
 
 abbrev headerTests : List ℕ → List Bool
 headerTests s =
-    leb (textureCount s) 64 ∷ eqb (textureOffset s) 40 ∷ leb (viewCount s) 256 ∷ eqb (viewOffset s) (viewStart s)
-    ∷ leb (passCount s) 100 ∷ eqb (passOffset s) (passStart s) ∷ between 1 8 (maxColors s)
-    ∷ leb (maxMultiview s) 32 ∷ leb (flags s) 15 ∷ eqb (passEnd s) (totalLength s) ∷ []
+    leb (textureCount s) maxTextures ∷ eqb (textureOffset s) headerBytes ∷ leb (viewCount s) maxViews ∷ eqb (viewOffset s) (viewStart s)
+    ∷ leb (passCount s) maxPasses ∷ eqb (passOffset s) (passStart s) ∷ between 1 maxSlots (maxColors s)
+    ∷ leb (maxMultiview s) maxMultiviews ∷ leb (flags s) maxFlags ∷ eqb (passEnd s) (totalLength s) ∷ []
 
 header-test : (s : List ℕ) → headerRight s ≡ true → (j : ℕ) → getD (headerTests s) j true ≡ true
 unfolding headerRight
@@ -93,15 +94,15 @@ header-test s e = each (headerTests s) e
 
 whole : (s : List ℕ) → lengthRight s ≡ true → totalLength s ≡ length s
 unfolding lengthRight
-whole s e = eqb-true (totalLength s) (length s) (and-right (leb 40 (length s)) (eqb (totalLength s) (length s)) e)
+whole s e = eqb-true (totalLength s) (length s) (and-right (leb headerBytes (length s)) (eqb (totalLength s) (length s)) e)
 
 texture-rows : (S : Session) → texturesRight S ≡ true → texturesRead S (S .textureCount) ≡ true
 unfolding texturesRight
-texture-rows S e = and-left (texturesRead S (S .textureCount)) (leb (surfaceCount S) 4096) e
+texture-rows S e = and-left (texturesRead S (S .textureCount)) (leb (surfaceCount S) maxSurfaces) e
 
-few-surfaces : (S : Session) → texturesRight S ≡ true → surfaceCount S ≤ 4096
+few-surfaces : (S : Session) → texturesRight S ≡ true → surfaceCount S ≤ maxSurfaces
 unfolding texturesRight
-few-surfaces S e = leb-true (surfaceCount S) 4096 (and-right (texturesRead S (S .textureCount)) (leb (surfaceCount S) 4096) e)
+few-surfaces S e = leb-true (surfaceCount S) maxSurfaces (and-right (texturesRead S (S .textureCount)) (leb (surfaceCount S) maxSurfaces) e)
 
 -- A session that is not refused is valid.
 pub valid-of : (s : List ℕ) → sessionRefusal s ≡ 0 → Valid s
@@ -113,12 +114,12 @@ valid-of s e =
     let few = few-surfaces S (t .third) in
     record {
       bytes = sym (whole s (t .first)) ∙ sym (eqb-true (passEnd s) (totalLength s) (test 9));
-      textures = leb-true (textureCount s) 64 (test 0);
-      views = leb-true (viewCount s) 256 (test 2);
-      passes = leb-true (passCount s) 100 (test 4);
-      colors = within 1 8 (maxColors s) (test 6);
-      multiview = leb-true (maxMultiview s) 32 (test 7);
-      flags = leb-true (flags s) 15 (test 8);
+      textures = leb-true (textureCount s) maxTextures (test 0);
+      views = leb-true (viewCount s) maxViews (test 2);
+      passes = leb-true (passCount s) maxPasses (test 4);
+      colors = within 1 maxSlots (maxColors s) (test 6);
+      multiview = leb-true (maxMultiview s) maxMultiviews (test 7);
+      flags = leb-true (flags s) maxFlags (test 8);
       texture = λ k h. valid-texture (S .texture k) (textures-each S (S .textureCount) (texture-rows S (t .third)) k h);
       view = λ k h. valid-view S (S .view k) (views-each S (S .viewCount) (t .fourth) k h);
       surfaces = λ n h. le-trans (before-grows S n (S .textureCount) h) few;
@@ -154,17 +155,17 @@ valid-slot S c e none =
 -- A pass row that can be read is valid.
 pub valid-pass : (S : Session) (p : Pass) → passReads S p ≡ true → ValidPass S p
 unfolding passReads
-valid-pass S p e = go (leb (p .colors) 8) refl e
+valid-pass S p e = go (leb (p .colors) maxSlots) refl e
   where
     rest : Bool
     rest = leb (p .ends) 1 && depthStencilReads S p && slotsRead S p (p .colors)
 
-    go : (b : Bool) → leb (p .colors) 8 ≡ b → cond b rest false ≡ true → ValidPass S p
+    go : (b : Bool) → leb (p .colors) maxSlots ≡ b → cond b rest false ≡ true → ValidPass S p
     go false q z = clash {b = false} z refl
     go true q z =
         let test = each (leb (p .ends) 1 ∷ depthStencilReads S p ∷ slotsRead S p (p .colors) ∷ []) z in
         record {
-          colors = leb-true (p .colors) 8 q;
+          colors = leb-true (p .colors) maxSlots q;
           ends = leb-true (p .ends) 1 (test 0);
           depthStencil = channels S p (test 1);
           slot = λ k h. valid-slot S (p .slot k) (slots-read-each S p (p .colors) (test 2) k h);

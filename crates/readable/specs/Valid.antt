@@ -5,6 +5,7 @@ use mathlib.Core.Bool.{true, false}
 use mathlib.Core.List.{List}
 use Prim.Native.Nat.{ℕ, _≤_, _<_}
 use lib.ListN.{length}
+use Rattle.definition.specs.Sizes.{maxTextures, maxViews, maxPasses, maxSlots, maxMultiviews, maxFlags, maxSize, maxLayers, maxMips, maxUsage, maxSurfaces}
 use Rattle.definition.specs.Formats.{isFormat}
 use Rattle.definition.specs.Session.{Pass, Session, session, passEnd, isNone, arrayLayers, surfacesBefore, surfaceIndex}
 use Rattle.definition.specs.Readable.{samplesRight, channelReads}
@@ -17,26 +18,26 @@ use Rattle.laws.specs.Views.{ValidView}
 pub record ValidTexture (t : Texture) : Type 0 where
   pub format : isFormat (t .format) ≡ true
   pub dimension : (1 ≤ t .dimension) × (t .dimension ≤ 3)
-  pub width : (1 ≤ t .width) × (t .width ≤ 16384)
-  pub height : (1 ≤ t .height) × (t .height ≤ 16384)
-  pub depth : (1 ≤ t .depth) × (t .depth ≤ 32)
-  pub mips : (1 ≤ t .mips) × (t .mips ≤ 15)
-  pub layers : (1 ≤ arrayLayers t) × (arrayLayers t ≤ 32)
+  pub width : (1 ≤ t .width) × (t .width ≤ maxSize)
+  pub height : (1 ≤ t .height) × (t .height ≤ maxSize)
+  pub depth : (1 ≤ t .depth) × (t .depth ≤ maxLayers)
+  pub mips : (1 ≤ t .mips) × (t .mips ≤ maxMips)
+  pub layers : (1 ≤ arrayLayers t) × (arrayLayers t ≤ maxLayers)
   pub samples : samplesRight (t .samples) ≡ true
-  pub usage : t .usage ≤ 63
+  pub usage : t .usage ≤ maxUsage
 
 pub record Valid (s : List ℕ) : Type 0 where
   pub bytes : length s ≡ passEnd s
-  pub textures : session s .textureCount ≤ 64
-  pub views : session s .viewCount ≤ 256
-  pub passes : session s .passCount ≤ 100
-  pub colors : (1 ≤ session s .maxColors) × (session s .maxColors ≤ 8)
-  pub multiview : session s .maxMultiview ≤ 32
-  pub flags : session s .flags ≤ 15
+  pub textures : session s .textureCount ≤ maxTextures
+  pub views : session s .viewCount ≤ maxViews
+  pub passes : session s .passCount ≤ maxPasses
+  pub colors : (1 ≤ session s .maxColors) × (session s .maxColors ≤ maxSlots)
+  pub multiview : session s .maxMultiview ≤ maxMultiviews
+  pub flags : session s .flags ≤ maxFlags
   pub texture : (k : ℕ) → k < session s .textureCount → ValidTexture (session s .texture k)
   pub view : (k : ℕ) → k < session s .viewCount → ValidView (session s) (session s .view k)
-  pub surfaces : (n : ℕ) → n ≤ session s .textureCount → surfacesBefore (session s) n ≤ 4096
-  pub surface : (x : Surface) → Inside (session s) x → surfaceIndex (session s) x < 4096
+  pub surfaces : (n : ℕ) → n ≤ session s .textureCount → surfacesBefore (session s) n ≤ maxSurfaces
+  pub surface : (x : Surface) → Inside (session s) x → surfaceIndex (session s) x < maxSurfaces
 
 -- A slot that is not empty.
 pub record ValidSlot (S : Session) (c : Slot) : Type 0 where
@@ -53,7 +54,7 @@ pub record ValidDepthStencil (S : Session) (p : Pass) : Type 0 where
   pub stencil : channelReads (p .stencil) ≡ true
 
 pub record ValidPass (S : Session) (p : Pass) : Type 0 where
-  pub colors : p .colors ≤ 8
+  pub colors : p .colors ≤ maxSlots
   pub ends : p .ends ≤ 1
   pub depthStencil : isNone (p .depthStencil) ≡ false → ValidDepthStencil S p
   pub slot : (k : ℕ) → k < p .colors → isNone (p .slot k .view) ≡ false → ValidSlot S (p .slot k)

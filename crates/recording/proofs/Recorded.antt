@@ -9,7 +9,7 @@ use lib.ListN.{length, length-append}
 use Rattle.definition.specs.Sizes.{maxDiscards}
 use Rattle.definition.specs.Session.{Pass, Session, isNone, viewRange}
 use Rattle.definition.specs.MemoryInit.{Lists, matching, registerInitAction, registered, discarded, applyPlan}
-use Rattle.definition.specs.Attachments.{Attached, rangeIn, kindOf, discards, attach, attachAll, resolveTo, colorOf, resolvePart, depthStencilPart, slotPart, slotParts, attachments}
+use Rattle.definition.specs.Attachments.{Attached, discards, attach, attachAll, resolveTo, colorOf, resolvePart, depthStencilPart, slotPart, slotParts, attachments}
 use Rattle.definition.specs.declared.Range.{Range}
 use Rattle.definition.specs.declared.Slot.{Slot}
 use Rattle.definition.specs.declared.MemoryInitKind.{MemoryInitKind}
@@ -17,12 +17,13 @@ use Rattle.definition.specs.declared.MemoryInitKind.the-variants.{ImplicitlyIni
 use Rattle.laws.proofs.Tests.{by-order}
 use Rattle.laws.proofs.Lists.{attach-append}
 use Rattle.laws.proofs.Folds.{parts-turn}
+use Rattle.lists.specs.Records.{records}
 use Rattle.lists.proofs.Records.{records-length, past-more}
 use Rattle.records.specs.Lent.{decodeSurface, decodeAction}
 use Rattle.memory_init.specs.declared.Counts.{Counts}
-use Rattle.memory_init.specs.Lent.{held, initKind, Leaves, Spared}
-use Rattle.memory_init.proofs.Registration.{spared-none, spared-step, leaves-discards, leaves-actions, leaves-clears}
-use Rattle.course.proofs.Room.{Fit, actions-grow}
+use Rattle.memory_init.specs.Lent.{held, initKind, Leaves}
+use Rattle.memory_init.proofs.Registration.{spared-none, spared-step, leaves-discards}
+use Rattle.course.proofs.Room.{Fit, attach-grows, actions-grow}
 use Rattle.attachments.specs.declared.Planned.{Planned}
 use Rattle.attachments.specs.Attached.{PlannedAs}
 use Rattle.attachments.proofs.Slots.{slot-some, slot-resolving}
@@ -41,36 +42,19 @@ discard-clears r true l = omega arith
 discard-clears r false l = omega arith
 
 clears-grow : (xs : List Attached) (l : Lists) → length (l .clears) ≤ length (attachAll xs l .clears)
-clears-grow [] l = omega arith
-clears-grow (x ∷ xs) l =
-    omega (
-      arith,
-      register-clears (rangeIn x) (kindOf x) l,
-      discard-clears (rangeIn x) (discards x) (registered (rangeIn x) (kindOf x) l),
-      clears-grow xs (attach x l),
-    )
+clears-grow = attach-grows (λ l. length (l .clears)) register-clears discard-clears
 
 -- ── recorded one after another
 
+-- A longer list has more records.
+grown : {A : Type 0} (k : ℕ) (decode : List ℕ → A) (n r : ℕ) (x x′ : List ℕ) (ys : List A) → records k decode r x′ ≡ ys → length (records k decode n x) ≤ length ys → n ≤ r
+grown k decode n r x x′ ys e h = omega (arith, records-length k decode n x, records-length k decode r x′, ap length e, h)
+
 recorded-actions : (xs : List Attached) (n r : Counts) (d d′ a a′ c c′ : List ℕ) → Recorded xs n r d d′ a a′ c c′ → n .actions ≤ r .actions
-recorded-actions xs n r d d′ a a′ c c′ g =
-    omega (
-      arith,
-      records-length 6 decodeAction (n .actions) a,
-      records-length 6 decodeAction (r .actions) a′,
-      ap (λ (q : Lists). length (q .actions)) (g .lists),
-      actions-grow xs (held n d a c),
-    )
+recorded-actions xs n r d d′ a a′ c c′ g = grown 6 decodeAction (n .actions) (r .actions) a a′ _ (ap (λ (q : Lists). q .actions) (g .lists)) (actions-grow xs (held n d a c))
 
 recorded-clears : (xs : List Attached) (n r : Counts) (d d′ a a′ c c′ : List ℕ) → Recorded xs n r d d′ a a′ c c′ → n .clears ≤ r .clears
-recorded-clears xs n r d d′ a a′ c c′ g =
-    omega (
-      arith,
-      records-length 3 decodeSurface (n .clears) c,
-      records-length 3 decodeSurface (r .clears) c′,
-      ap (λ (q : Lists). length (q .clears)) (g .lists),
-      clears-grow xs (held n d a c),
-    )
+recorded-clears xs n r d d′ a a′ c c′ g = grown 3 decodeSurface (n .clears) (r .clears) c c′ _ (ap (λ (q : Lists). q .clears) (g .lists)) (clears-grow xs (held n d a c))
 
 pub recorded-none : (n : Counts) (d a c : List ℕ) → n .discards ≤ maxDiscards → Recorded [] n n d d a a c c
 recorded-none n d a c h = record { lists = refl; spared = spared-none n d a c; small = h }
@@ -101,8 +85,8 @@ recorded-attach p x n r d d′ a a′ c c′ e lent fit left =
     record {
       lists = left .lists ∙ same;
       spared = spared-step l n r d d d′ a a a′ c c c′ (spared-none n d a c) left (lent .held) few
-          (omega (arith, records-length 6 decodeAction (n .actions) a, leaves-actions l n r d d′ a a′ c c′ left, ap (λ (q : Lists). length (q .actions)) same, actions-grow (x ∷ []) (held n d a c)))
-          (omega (arith, records-length 3 decodeSurface (n .clears) c, leaves-clears l n r d d′ a a′ c c′ left, ap (λ (q : Lists). length (q .clears)) same, clears-grow (x ∷ []) (held n d a c)));
+          (grown 6 decodeAction (n .actions) (r .actions) a a′ _ (ap (λ (q : Lists). q .actions) (left .lists ∙ same)) (actions-grow (x ∷ []) (held n d a c)))
+          (grown 3 decodeSurface (n .clears) (r .clears) c c′ _ (ap (λ (q : Lists). q .clears) (left .lists ∙ same)) (clears-grow (x ∷ []) (held n d a c)));
       small = few;
     }
 

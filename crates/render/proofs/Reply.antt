@@ -1,21 +1,20 @@
 -- The reply of a pass: a pass has at most seventeen attachments, so that the array holds them all.
-use Prim.Native.Nat.{ℕ, zero, suc, _+_, _*_, _≤_}
+use Prim.Native.Nat.{ℕ, zero, suc, _*_, _≤_}
 use native.Mathlib.Omega.{arith}
 use mathlib.Core.Path.{_≡_, sym, ap, _∙_}
 use mathlib.Core.Bool.{Bool, true, false, cond}
 use mathlib.Core.List.{List, [], _∷_, _++_, map}
 use lib.ListN.{length, length-append}
 use Rattle.definition.specs.Session.{Pass, Session, isNone}
-use Rattle.definition.specs.Verdict.{fine}
-use Rattle.definition.specs.Attachments.{Attached, divergentOf, depthStencilPart, resolvePart, slotPart, slotParts, attachments}
-use Rattle.definition.specs.Pass.{attachmentReply, depthReadOnly, stencilReadOnly, ofFirst, acceptance}
+use Rattle.definition.specs.Attachments.{Attached, depthStencilPart, resolvePart, slotPart, slotParts, attachments}
+use Rattle.definition.specs.Pass.{attachmentReply, acceptance}
 use Rattle.definition.specs.declared.Slot.{Slot}
 use Rattle.definition.specs.declared.Seen.{Seen}
 use Rattle.definition.specs.declared.Surface.{Surface}
 use Rattle.memory_init.specs.declared.Counts.{Counts}
 use Rattle.replies.specs.declared.Attachments.{Attachments}
 use Rattle.replies.specs.Records.{listed}
-use Rattle.render.specs.Outcome.{replied, acceptedOutcome}
+use Rattle.render.specs.Outcome.{replied, acceptedReply, acceptedOutcome}
 
 -- ── at most seventeen
 
@@ -55,14 +54,4 @@ attachments-listed S p r n e h = h ∙ ap (λ (q : ℕ). listed (map (attachment
 -- So many clears are returned as the list of clears has.
 pub reply-accepted : (S : Session) (xs : List Attached) (seen : Seen) (n : Counts) (clears : List Surface) → length clears ≡ n .clears
     → acceptedOutcome S xs seen n .reply ≡ replied (acceptance S seen xs clears)
-reply-accepted S xs seen n clears h = λ i. record {
-  verdict = fine;
-  width = seen .width;
-  height = seen .height;
-  samples = seen .samples;
-  «is_depth_read_only» = ofFirst false depthReadOnly xs;
-  «is_stencil_read_only» = ofFirst false stencilReadOnly xs;
-  divergent = ofFirst 0 divergentOf xs;
-  attachments = listed (map (attachmentReply S) xs);
-  clears = sym h i;
-}
+reply-accepted S xs seen n clears h = ap (acceptedReply S xs seen) (sym h)

@@ -35,22 +35,22 @@ replied r = record {
 abbrev pub refusedOutcome : Verdict → Counts → PassOutcome
 refusedOutcome v n = record { reply = replied (refusal v); counts = n }
 
--- Accepted, with the attachments xs.
-abbrev pub acceptedOutcome : Session → List Attached → Seen → Counts → PassOutcome
-acceptedOutcome S xs seen n = record {
-  reply = record {
-    verdict = fine;
-    width = seen .width;
-    height = seen .height;
-    samples = seen .samples;
-    «is_depth_read_only» = ofFirst false depthReadOnly xs;
-    «is_stencil_read_only» = ofFirst false stencilReadOnly xs;
-    divergent = ofFirst 0 divergentOf xs;
-    attachments = listed (map (attachmentReply S) xs);
-    clears = n .clears;
-  };
-  counts = n;
+-- Accepted, with the attachments xs and so many clears.
+abbrev pub acceptedReply : Session → List Attached → Seen → ℕ → PassReply
+acceptedReply S xs seen clears = record {
+  verdict = fine;
+  width = seen .width;
+  height = seen .height;
+  samples = seen .samples;
+  «is_depth_read_only» = ofFirst false depthReadOnly xs;
+  «is_stencil_read_only» = ofFirst false stencilReadOnly xs;
+  divergent = ofFirst 0 divergentOf xs;
+  attachments = listed (map (attachmentReply S) xs);
+  clears = clears;
 }
+
+abbrev pub acceptedOutcome : Session → List Attached → Seen → Counts → PassOutcome
+acceptedOutcome S xs seen n = record { reply = acceptedReply S xs seen (n .clears); counts = n }
 
 -- Every attachment has a record, and the clears fit their list.
 pub record Whole (r : PassReply) : Type 0 where

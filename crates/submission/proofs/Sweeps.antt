@@ -1,18 +1,18 @@
 -- A run of bytes is a sweep over the layers of a mip, and rows of runs are a sweep over a range: one surface, then one mip further.
 use Prim.Native.Nat.{ℕ, zero, suc, _+_, _-_, _*_, _≤_, _<_}
-use native.Mathlib.Nat.{add-zero, suc-mul, add-mul}
+use native.Mathlib.Nat.{add-mul}
 use native.Mathlib.Omega.{arith}
 use native.Mathlib.Numerals.{add-one}
 use mathlib.Core.Path.{_≡_, refl, sym, ap, ap₂, _∙_}
-use mathlib.Core.Bool.{Bool, true, false, _&&_, _||_, cond}
+use mathlib.Core.Bool.{Bool, true, false, _&&_, _||_, cond, and-false}
 use mathlib.Core.List.{List, [], _∷_, _++_}
 use lib.Dec.{leb, ltb, eqb}
-use lib.ListN.{length, getD, set, length-set, take}
+use lib.ListN.{length, getD, set, take}
 use lib.Seq.{take-all, length-take-le}
 use borrow.Author.Tests.{leb-true, ltb-true, eqb-true, eqb-false, le-leb, lt-ltb}
 use Rattle.definition.specs.Surfaces.{surfaceAt, rangeAt, firstOf, same, within, hits}
 use Rattle.definition.specs.Sizes.{maxSurfaces}
-use Rattle.definition.specs.Session.{Session, arrayLayers, surfacesBefore, surfaceCount, surfaceIndex, surfacesOf}
+use Rattle.definition.specs.Session.{Session, arrayLayers, surfaceCount, surfaceIndex, surfacesOf}
 use Rattle.definition.specs.Status.{restart, actByte, emptyByte}
 use Rattle.definition.specs.Submission.{submitBytes}
 use Rattle.definition.specs.declared.Surface.{Surface}
@@ -23,14 +23,13 @@ use Rattle.laws.specs.Surfaces.{Inside, RangeInside}
 use Rattle.laws.specs.Submission.{sweep, actAt, emptyAt, sweepActs}
 use Rattle.laws.proofs.Tests.{or-factor, bool-iff, and-left, and-right, and-on, or-on-left, or-on-right}
 use Rattle.laws.proofs.Surfaces.{within-none, within-one}
-use Rattle.laws.proofs.Status.{act-twice, empty-twice}
+use Rattle.laws.proofs.Status.{act-twice}
 use Rattle.laws.proofs.Places.{surfaces-counted, place-counted}
 use Rattle.laws.proofs.Submission.{sweep-length, sweep-past, sweep-turn, sweep-same, sweep-either, sweep-only, sweeps-append, empties-append, submit-sweeps}
 use Rattle.lists.specs.Records.{records}
 use Rattle.lists.proofs.Records.{records-suc}
 use Rattle.records.specs.Lent.{decodeSurface, decodeAction, actionOf, surfaces, surfaceIn, actions, actionIn}
 use Rattle.submission.specs.Runs.{run, rows}
-use Rattle.submission.proofs.Runs.{run-length, rows-length}
 
 -- ── ranges, one layer and one mip further
 
@@ -101,19 +100,11 @@ acting g r u b = cond (hits r u) (g b) b
 module _ (S : Session) (g : ℕ → ℕ) (twice : (b : ℕ) → g (g b) ≡ g b) (t : ℕ) (in-textures : t < S .textureCount) where
   no-layers : (m l : ℕ) (u : Surface) → hits (rangeAt t m 1 l 0) u ≡ false
   unfolding hits
-  no-layers m l u = ap (λ q. (eqb (u .texture) t && within m 1 (u .mip)) && q) (within-none l (u .layer)) ∙ none (eqb (u .texture) t && within m 1 (u .mip))
-    where
-      none : (a : Bool) → (a && false) ≡ false
-      none true = refl
-      none false = refl
+  no-layers m l u = ap (λ q. (eqb (u .texture) t && within m 1 (u .mip)) && q) (within-none l (u .layer)) ∙ and-false (eqb (u .texture) t && within m 1 (u .mip))
 
   no-mips : (m l c : ℕ) (u : Surface) → hits (rangeAt t m 0 l c) u ≡ false
   unfolding hits
-  no-mips m l c u = ap (λ q. (eqb (u .texture) t && q) && within l c (u .layer)) (within-none m (u .mip)) ∙ none (eqb (u .texture) t) (within l c (u .layer))
-    where
-      none : (a l : Bool) → ((a && false) && l) ≡ false
-      none true l = refl
-      none false l = refl
+  no-mips m l c u = ap (λ q. (eqb (u .texture) t && q) && within l c (u .layer)) (within-none m (u .mip)) ∙ ap (λ q. q && within l c (u .layer)) (and-false (eqb (u .texture) t))
 
   -- The first n layers of a mip, from layer l on.
   pub run-sweeps : (m l n : ℕ) (bytes : List ℕ) → m < S .texture t .mips → l + n ≤ arrayLayers (S .texture t) → surfaceCount S ≤ length bytes

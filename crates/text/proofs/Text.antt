@@ -1,21 +1,18 @@
 -- Laws of texts: a digit more, a number more, a line more.
 use mathlib.Core.Path.{_≡_, refl, sym, ap, ap₂, _∙_}
 use mathlib.Core.List.{List, [], _∷_, _++_, append-assoc, append-nil}
-use Prim.Native.Nat.{ℕ, zero, suc, _+_, _-_, _*_, _/_, _%_, _^_, _≤_, _<_}
+use Prim.Native.Nat.{ℕ, suc, _+_, _-_, _*_, _/_, _%_, _^_, _≤_, _<_}
 use native.Mathlib.Omega.{arith}
-use native.Mathlib.Nat.{add-zero, div-div-eq-div-mul, not-suc-le-zero}
-use native.Mathlib.Numerals.{unary-clauses, add-one}
+use native.Mathlib.Nat.{add-zero, not-suc-le-zero}
+use native.Mathlib.Numerals.{add-one}
 use borrow.Author.Tests.{lt-ltb, le-ltb}
-use lib.ListN.{length, length-append}
+use lib.ListN.{length}
 use Rattle.definition.specs.Bytes.{u32At}
 use Rattle.lent.specs.Numbers.{numbersAt}
+use Rattle.lent.proofs.Numbers.{length-numbers}
 use Rattle.rows.specs.Rows.{rowNumbers, rowBytes, rowsIn}
 use Rattle.rows.proofs.Rows.{rows-next}
 use Rattle.text.specs.Text.{places, digits, decimal, space, joined, lineText, linesText}
-
--- Dividing by 10 once more.
-pub shifted : (n k : ℕ) → n / 10 ^ k / 10 ≡ n / 10 ^ suc k
-shifted n k = simp unary-clauses (div-div-eq-div-mul n (10 ^ k) 10)
 
 -- Counting digits stops below ten and after ten digits, and else goes on with a tenth.
 pub count-stops : (k n : ℕ) → k < 10 → n < 10 → places (10 - k) k n ≡ k
@@ -40,11 +37,6 @@ unfolding digits
 digit-more t t′ b m k n e d h = rw (e, h, d) (append-assoc t ((48 + n / 10 ^ m % 10) ∷ []) (digits m n))
 
 -- ── numbers of a row, lines
-
-length-numbers : (b : List ℕ) (at n : ℕ) → length (numbersAt b at n) ≡ n
-unfolding numbersAt
-length-numbers b at zero = refl
-length-numbers b at (suc n) = simp (length-append, length-numbers b at n) (omega arith)
 
 -- A further number at the end.
 joined-more : (xs : List ℕ) (x : ℕ) → 0 < length xs → joined (xs ++ (x ∷ [])) ≡ joined xs ++ (space ∷ decimal x)

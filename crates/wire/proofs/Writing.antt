@@ -22,8 +22,8 @@ put-length s at n zero = refl
 put-length s at n (suc k) = simp length-set (put-length s at n k)
 
 -- Dividing by 256 once more.
-pub shifted : (n k : ℕ) → n / 256 ^ k / 256 ≡ n / 256 ^ suc k
-shifted n k = simp unary-clauses (div-div-eq-div-mul n (256 ^ k) 256)
+pub shifted : (b n k : ℕ) → n / b ^ k / b ≡ n / b ^ suc k
+shifted b n k = simp unary-clauses (div-div-eq-div-mul n (b ^ k) b)
 
 -- Inside, a number is its bytes; elsewhere nothing is written.
 pub put-inside : (k : ℕ) (s : List ℕ) (at n : ℕ) → at + k ≤ length s → putBytes s at n k ≡ putNumber k s at n
@@ -61,6 +61,6 @@ put-read s at n h l =
     let top : n / 256 ^ 3 < 256 = omega arith in
     let e₀ : n / 256 ^ 0 % 256 ≡ n % 256 = ap (λ m. m % 256) (div-one n) in
     let e₃ : n / 256 ^ 3 % 256 ≡ n / 256 ^ 3 = mod-eq-of-lt top in
-    digits n (n / 256) (n / 65536) (n / 16777216) refl (shifted n 1) (shifted n 2) top
+    digits n (n / 256) (n / 65536) (n / 16777216) refl (shifted 256 n 1) (shifted 256 n 2) top
     ∙ four w at (at + 0) (at + 1) (at + 2) (at + 3) _ _ _ _ (sym (b 0 (omega arith) ∙ e₀)) (sym (b 1 (omega arith))) (sym (b 2 (omega arith))) (sym (b 3 (omega arith) ∙ e₃)) (omega arith) (omega arith) (omega arith) (omega arith)
     ∙ ap (λ x. u32At x at) (put-inside 4 s at n h)

@@ -1,23 +1,13 @@
 -- The test so far is that of the actions so far.
-use mathlib.Core.Path.{_≡_, refl, sym, ap, ap₂, _∙_}
+use mathlib.Core.Path.{_≡_, sym, ap, ap₂, _∙_}
 use native.Mathlib.Omega.{arith}
-use Prim.Native.Nat.{ℕ, _-_, _+_, _*_, _≤_, zero-le}
+use Prim.Native.Nat.{ℕ, _-_, _≤_, zero-le}
 use mathlib.Core.Bool.{_&&_}
-use lib.ListN.{length}
 use Rattle.definition.specs.Session.{session}
 use Rattle.definition.specs.Calls.{rangeRight, actionsRight}
 use Rattle.records.specs.Lent.{actions}
 use Rattle.lent_right.proofs.Turns.{actions-none, actions-turn}
 use borrow.Author.Needs.{needs}
-use mathlib.Core.Path.{_≡_, refl, sym, ap, ap₂, _∙_}
-use native.Mathlib.Omega.{arith}
-use Prim.Native.Nat.{ℕ, _-_, _+_, _*_, _≤_, zero-le}
-use mathlib.Core.Bool.{_&&_}
-use lib.ListN.{length}
-use Rattle.definition.specs.Session.{session}
-use Rattle.definition.specs.Calls.{rangeRight, actionsRight}
-use Rattle.records.specs.Lent.{actions}
-use Rattle.lent_right.proofs.Turns.{actions-none, actions-turn}
 use Rattle.lent_right.proofs.actions_right.Statement.{statement}
 use Rattle.lent_right.proofs.actions_right.Tie as tie
 

@@ -1,23 +1,13 @@
 -- The test so far is that of the surfaces so far.
-use mathlib.Core.Path.{_≡_, refl, sym, ap, ap₂, _∙_}
+use mathlib.Core.Path.{_≡_, sym, ap, ap₂, _∙_}
 use native.Mathlib.Omega.{arith}
-use Prim.Native.Nat.{ℕ, _-_, _+_, _*_, _≤_, zero-le}
+use Prim.Native.Nat.{ℕ, _-_, _≤_, zero-le}
 use mathlib.Core.Bool.{_&&_}
-use lib.ListN.{length}
 use Rattle.definition.specs.Session.{session}
 use Rattle.definition.specs.Calls.{surfaceRight, surfacesRight}
 use Rattle.records.specs.Lent.{surfaces}
 use Rattle.lent_right.proofs.Turns.{surfaces-none, surfaces-turn}
 use borrow.Author.Needs.{needs}
-use mathlib.Core.Path.{_≡_, refl, sym, ap, ap₂, _∙_}
-use native.Mathlib.Omega.{arith}
-use Prim.Native.Nat.{ℕ, _-_, _+_, _*_, _≤_, zero-le}
-use mathlib.Core.Bool.{_&&_}
-use lib.ListN.{length}
-use Rattle.definition.specs.Session.{session}
-use Rattle.definition.specs.Calls.{surfaceRight, surfacesRight}
-use Rattle.records.specs.Lent.{surfaces}
-use Rattle.lent_right.proofs.Turns.{surfaces-none, surfaces-turn}
 use Rattle.lent_right.proofs.surfaces_right.Statement.{statement}
 use Rattle.lent_right.proofs.surfaces_right.Tie as tie
 

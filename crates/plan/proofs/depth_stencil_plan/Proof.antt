@@ -1,8 +1,6 @@
 -- Each return is one of the three cases.
 use borrow.Author.Needs.{needs}
 use mathlib.Core.Path.{sym, _∙_}
-use Rattle.depth_channel.specs.Depth as De
-use Rattle.stencil_channel.specs.Stencil as St
 use Rattle.plan.proofs.DepthStencil.{depth-decides, stencil-decides, diverge}
 use Rattle.plan.proofs.depth_stencil_plan.Statement.{statement}
 use Rattle.plan.proofs.depth_stencil_plan.Tie as tie
@@ -12,9 +10,7 @@ returns c =
     let by = c .before .before in
     let s = by .before in
     let d = s .before in
-    let depth = De.opsIn (d .before .args .depth) in
-    let stencil = St.opsIn (d .before .args .stencil) in
-    depth-decides (c .regular-plan .result) _ _ depth stencil (d .operations .ensures) (s .operations2 .ensures)
+    depth-decides (c .regular-plan .result) _ _ _ _ (d .operations .ensures) (s .operations2 .ensures)
     (sym (by .by-depth .ensures) ∙ c .before .if1 .taken) (c .regular-plan .ensures)
 
 returns-2 : tie.Need-returns-2
@@ -22,9 +18,7 @@ returns-2 c =
     let by = c .before .before .before in
     let s = by .before in
     let d = s .before in
-    let depth = De.opsIn (d .before .args .depth) in
-    let stencil = St.opsIn (d .before .args .stencil) in
-    diverge (c .diverged-plan .result) _ _ depth stencil (d .operations .ensures) (s .operations2 .ensures)
+    diverge (c .diverged-plan .result) _ _ _ _ (d .operations .ensures) (s .operations2 .ensures)
     (sym (by .by-depth .ensures) ∙ c .before .before .if1 .left) (c .before .if2 .taken) (c .diverged-plan .ensures)
 
 returns-3 : tie.Need-returns-3
@@ -32,9 +26,7 @@ returns-3 c =
     let by = c .before .before .before in
     let s = by .before in
     let d = s .before in
-    let depth = De.opsIn (d .before .args .depth) in
-    let stencil = St.opsIn (d .before .args .stencil) in
-    stencil-decides (c .regular-plan2 .result) _ _ depth stencil (d .operations .ensures) (s .operations2 .ensures)
+    stencil-decides (c .regular-plan2 .result) _ _ _ _ (d .operations .ensures) (s .operations2 .ensures)
     (sym (by .by-depth .ensures) ∙ c .before .before .if1 .left) (c .before .if2 .left) (c .regular-plan2 .ensures)
 
 pub depth-stencil-plan-spec : {M : Type 1} → statement M

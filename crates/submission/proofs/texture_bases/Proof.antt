@@ -1,21 +1,14 @@
 -- The entries so far, and the sum of the textures so far.
 use native.Mathlib.Omega.{arith}
 use mathlib.Core.Path.{_≡_, refl, sym, ap, _∙_}
-use Prim.Native.Nat.{ℕ, _+_, _*_, _-_, _≤_, _<_, zero-le}
+use Prim.Native.Nat.{ℕ, _+_, _-_, _≤_, _<_, zero-le}
 use lib.ListN.{length, length-set}
 use lib.ListN.{getD}
 use Rattle.definition.specs.Session.{session, surfacesIn, surfacesBefore}
 use Rattle.laws.proofs.Folds.{before-none, before-turn}
 use Rattle.submission.proofs.Bases.{entry-further, sum-fits}
 use borrow.Author.Needs.{needs}
-use native.Mathlib.Omega.{arith}
-use mathlib.Core.Path.{_≡_, refl, sym, ap, _∙_}
-use Prim.Native.Nat.{ℕ, _+_, _*_, _-_, _≤_, _<_, zero-le}
-use lib.ListN.{length, length-set}
-use lib.ListN.{getD}
 use Rattle.definition.specs.Session.{session, surfacesBefore}
-use Rattle.laws.proofs.Folds.{before-none, before-turn}
-use Rattle.submission.proofs.Bases.{entry-further, sum-fits}
 use Rattle.submission.proofs.texture_bases.Statement.{statement}
 use Rattle.submission.proofs.texture_bases.Tie as tie
 

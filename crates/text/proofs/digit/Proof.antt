@@ -4,7 +4,7 @@ use Prim.Native.Nat.{_-_, _/_, _%_, _+_, _^_, _≤_}
 use native.Mathlib.Omega.{arith}
 use native.Mathlib.Numerals.{add-one}
 use native.Mathlib.Nat.{div-one}
-use Rattle.text.proofs.Text.{shifted}
+use Rattle.wire.proofs.Writing.{shifted}
 use Rattle.text.proofs.digit.Statement.{statement}
 use Rattle.text.proofs.digit.Tie as tie
 
@@ -20,7 +20,7 @@ loop-holds c = (sym (div-one _), omega arith)
 loop-again : tie.Need-loop-again Inv-loop μ-loop
 loop-again c =
     let l = c .before .loop in
-    (rw (add-one (l .i)) (ap (λ m. m / 10) (l .inv .0) ∙ shifted (c .before .before .args .n) (l .i)), omega arith)
+    (rw (add-one (l .i)) (ap (λ m. m / 10) (l .inv .0) ∙ shifted 10 (c .before .before .args .n) (l .i)), omega arith)
 
 returns : tie.Need-returns Inv-loop μ-loop
 returns c =

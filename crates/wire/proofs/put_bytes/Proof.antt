@@ -25,7 +25,7 @@ unfolding putBytes
 loop-again c =
     let l = c .before .loop in
     let a = c .before .before .args in
-    (rw add-one (simp (l .inv .0, l .inv .1)), rw (add-one (l .i)) (ap (λ m. m / 256) (l .inv .1) ∙ shifted (a .n) (l .i)), omega arith, simp length-set (l .inv .3))
+    (rw add-one (simp (l .inv .0, l .inv .1)), rw (add-one (l .i)) (ap (λ m. m / 256) (l .inv .1) ∙ shifted 256 (a .n) (l .i)), omega arith, simp length-set (l .inv .3))
 
 same-length : tie.Need-same-length Inv-loop μ-loop
 same-length c = ap length (c .before .loop .inv .0) ∙ put-length _ _ _ _
