@@ -1,5 +1,5 @@
 -- Laws of status bytes, by the clauses of the byte: 0, 1, 2, and 3 and more.
-use mathlib.Core.Path.{_≡_, refl, sym, ap}
+use mathlib.Core.Path.{_≡_, refl, ap}
 use mathlib.Core.Logic.{_≢_}
 use mathlib.Core.Bool.{true, false}
 use Prim.Native.Nat.{ℕ, zero, suc, _≤_}
@@ -47,9 +47,9 @@ cleared-restart = by-clause (λ b. cleared (restart b) ≡ false) refl refl refl
 pub cleared-act : (k : MemoryInitKind) (b : ℕ) → cleared b ≡ true → cleared (actByte k b) ≡ true
 unfolding cleared actByte
 cleared-act NeedsInitializedMemory =
-    by-clause (λ b. cleared b ≡ true → cleared (actByte NeedsInitializedMemory b) ≡ true) (λ h. refl) (λ h. h) (λ h. refl) (λ n h. refl)
+    by-clause (λ b. cleared b ≡ true → cleared (actByte NeedsInitializedMemory b) ≡ true) (λ h. clash {b = false} h refl) (λ h. clash {b = false} h refl) (λ h. refl) (λ n h. refl)
 cleared-act ImplicitlyInitialized =
-    by-clause (λ b. cleared b ≡ true → cleared (actByte ImplicitlyInitialized b) ≡ true) (λ h. h) (λ h. h) (λ h. refl) (λ n h. refl)
+    by-clause (λ b. cleared b ≡ true → cleared (actByte ImplicitlyInitialized b) ≡ true) (λ h. clash {b = false} h refl) (λ h. clash {b = false} h refl) (λ h. refl) (λ n h. refl)
 
 pub cleared-empty : (b : ℕ) → cleared (emptyByte b) ≡ cleared b
 unfolding cleared emptyByte
@@ -59,7 +59,7 @@ cleared-empty = by-clause (λ b. cleared (emptyByte b) ≡ cleared b) refl refl 
 pub needing-clears : (b : ℕ) → filled b ≡ false → cleared (actByte NeedsInitializedMemory b) ≡ true
 unfolding filled cleared actByte
 needing-clears =
-    by-clause (λ b. filled b ≡ false → cleared (actByte NeedsInitializedMemory b) ≡ true) (λ h. refl) (λ h. sym h) (λ h. refl) (λ n h. refl)
+    by-clause (λ b. filled b ≡ false → cleared (actByte NeedsInitializedMemory b) ≡ true) (λ h. refl) (λ h. clash {b = true} refl h) (λ h. refl) (λ n h. clash {b = true} refl h)
 
 -- ── where an action does nothing
 
