@@ -1,8 +1,8 @@
 -- Safe: at most the seventeen records are read.
 use Prim.Native.Nat.{_-_}
 use borrow.Author.Needs.{needs}
-use Rattle.replay.proofs.attachments.Statement.{statement}
-use Rattle.replay.proofs.attachments.Tie as tie
+use Rattle.answers.proofs.attachments.Statement.{statement}
+use Rattle.answers.proofs.attachments.Tie as tie
 
 abbrev Inv-loop : tie.InvT-loop
 Inv-loop list count records q₀ i₀ q i = Unit {0}

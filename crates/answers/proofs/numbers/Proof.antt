@@ -1,8 +1,8 @@
 -- Safe: a place below 2 ^ 32 and four bytes for each of fewer than 2 ^ 32 numbers.
 use Prim.Native.Nat.{_-_}
 use borrow.Author.Needs.{needs}
-use Rattle.replay.proofs.numbers.Statement.{statement}
-use Rattle.replay.proofs.numbers.Tie as tie
+use Rattle.answers.proofs.numbers.Statement.{statement}
+use Rattle.answers.proofs.numbers.Tie as tie
 
 abbrev Inv-loop : tie.InvT-loop
 Inv-loop list b from n q₀ i₀ q i = Unit {0}
