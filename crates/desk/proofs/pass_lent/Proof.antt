@@ -60,41 +60,127 @@ returns-4 c =
     (omega (arith, judged .before .before .before .before .before .if2 .left, judged .before .before .before .before .before .before .pass-count .ensures)) (lent .ensures .lists right) (judged .check-pass .ensures) (c .numbered2 .ensures)
     _ _ _ (sym (fine .ensures) ∙ not-false (fine .result) (c .before .before .before .before .before .before .before .before .before .before .before .before .before .before .before .if3 .left)) (packed .ensures .0) (packed .ensures .1 .0) (packed .ensures .1 .1)
 
+-- ── what `search` finds, each by itself: in one definition they take more memory
+
+slice-aggregate-unpack-lent : tie.Need-slice-aggregate-unpack-lent
+slice-aggregate-unpack-lent c = search needs
+
+slice-aggregate-unpack-lent-2 : tie.Need-slice-aggregate-unpack-lent-2
+slice-aggregate-unpack-lent-2 c = search needs
+
+slice-aggregate-unpack-lent-3 : tie.Need-slice-aggregate-unpack-lent-3
+slice-aggregate-unpack-lent-3 c = search needs
+
+unpack-lent-requires : tie.Need-unpack-lent-requires
+unpack-lent-requires c κs = search needs
+
+refused-reply-requires : tie.Need-refused-reply-requires
+refused-reply-requires c κs = search needs
+
+same-length : tie.Need-same-length
+same-length c = search needs
+
+same-length-2 : tie.Need-same-length-2
+same-length-2 c = search needs
+
+same-length-3 : tie.Need-same-length-3
+same-length-3 c = search needs
+
+pass-count-requires : tie.Need-pass-count-requires
+pass-count-requires c κs = search needs
+
+refused-reply-requires-2 : tie.Need-refused-reply-requires-2
+refused-reply-requires-2 c κs = search needs
+
+same-length-4 : tie.Need-same-length-4
+same-length-4 c = search needs
+
+same-length-5 : tie.Need-same-length-5
+same-length-5 c = search needs
+
+same-length-6 : tie.Need-same-length-6
+same-length-6 c = search needs
+
+slice-aggregate-check-pass : tie.Need-slice-aggregate-check-pass
+slice-aggregate-check-pass c = search needs
+
+slice-aggregate-check-pass-2 : tie.Need-slice-aggregate-check-pass-2
+slice-aggregate-check-pass-2 c = search needs
+
+slice-aggregate-check-pass-3 : tie.Need-slice-aggregate-check-pass-3
+slice-aggregate-check-pass-3 c = search needs
+
+is-fine-requires : tie.Need-is-fine-requires
+is-fine-requires c κs = search needs
+
+numbered-requires : tie.Need-numbered-requires
+numbered-requires c κs = search needs
+
+same-length-7 : tie.Need-same-length-7
+same-length-7 c = search needs
+
+same-length-8 : tie.Need-same-length-8
+same-length-8 c = search needs
+
+same-length-9 : tie.Need-same-length-9
+same-length-9 c = search needs
+
+slice-aggregate-pack-lent : tie.Need-slice-aggregate-pack-lent
+slice-aggregate-pack-lent c = search needs
+
+slice-aggregate-pack-lent-2 : tie.Need-slice-aggregate-pack-lent-2
+slice-aggregate-pack-lent-2 c = search needs
+
+slice-aggregate-pack-lent-3 : tie.Need-slice-aggregate-pack-lent-3
+slice-aggregate-pack-lent-3 c = search needs
+
+numbered-requires-2 : tie.Need-numbered-requires-2
+numbered-requires-2 c κs = search needs
+
+same-length-10 : tie.Need-same-length-10
+same-length-10 c = search needs
+
+same-length-11 : tie.Need-same-length-11
+same-length-11 c = search needs
+
+same-length-12 : tie.Need-same-length-12
+same-length-12 c = search needs
+
 pub pass-lent-spec : {M : Type 1} → statement M
 pass-lent-spec =
     tie.close
     (tie.spec
-    (λ c. search needs)
-    (λ c. search needs)
-    (λ c. search needs)
-    (λ c κs. search needs)
-    (λ c κs. search needs)
-    (λ c. search needs)
-    (λ c. search needs)
-    (λ c. search needs)
+    slice-aggregate-unpack-lent
+    slice-aggregate-unpack-lent-2
+    slice-aggregate-unpack-lent-3
+    unpack-lent-requires
+    refused-reply-requires
+    same-length
+    same-length-2
+    same-length-3
     returns
-    (λ c κs. search needs)
-    (λ c κs. search needs)
-    (λ c. search needs)
-    (λ c. search needs)
-    (λ c. search needs)
+    pass-count-requires
+    refused-reply-requires-2
+    same-length-4
+    same-length-5
+    same-length-6
     returns-2
-    (λ c. search needs)
-    (λ c. search needs)
-    (λ c. search needs)
+    slice-aggregate-check-pass
+    slice-aggregate-check-pass-2
+    slice-aggregate-check-pass-3
     check-pass-requires
-    (λ c κs. search needs)
-    (λ c κs. search needs)
-    (λ c. search needs)
-    (λ c. search needs)
-    (λ c. search needs)
+    is-fine-requires
+    numbered-requires
+    same-length-7
+    same-length-8
+    same-length-9
     returns-3
-    (λ c. search needs)
-    (λ c. search needs)
-    (λ c. search needs)
+    slice-aggregate-pack-lent
+    slice-aggregate-pack-lent-2
+    slice-aggregate-pack-lent-3
     pack-lent-requires
-    (λ c κs. search needs)
-    (λ c. search needs)
-    (λ c. search needs)
-    (λ c. search needs)
+    numbered-requires-2
+    same-length-10
+    same-length-11
+    same-length-12
     returns-4)

@@ -44,24 +44,68 @@ returns-2 c =
     sent-all _ _ _ _ _ (lent .result .counts) _ _ _ _ _ _ (sym (lent .ensures .decided) ∙ right) (omega (arith, long .discards)) (omega (arith, long .actions)) (lent .ensures .lists right)
     (emptied .before .before .before .before .put-u32 .ensures) (emptied .put-u322 .ensures) (sent .submit .ensures .0)
 
+-- ── what `search` finds, each by itself: in one definition they take more memory
+
+slice-aggregate-unpack-lent : tie.Need-slice-aggregate-unpack-lent
+slice-aggregate-unpack-lent c = search needs
+
+slice-aggregate-unpack-lent-2 : tie.Need-slice-aggregate-unpack-lent-2
+slice-aggregate-unpack-lent-2 c = search needs
+
+slice-aggregate-unpack-lent-3 : tie.Need-slice-aggregate-unpack-lent-3
+slice-aggregate-unpack-lent-3 c = search needs
+
+unpack-lent-requires : tie.Need-unpack-lent-requires
+unpack-lent-requires c κs = search needs
+
+same-length : tie.Need-same-length
+same-length c = search needs
+
+same-length-2 : tie.Need-same-length-2
+same-length-2 c = search needs
+
+same-length-3 : tie.Need-same-length-3
+same-length-3 c = search needs
+
+slice-aggregate-submit : tie.Need-slice-aggregate-submit
+slice-aggregate-submit c = search needs
+
+slice-aggregate-submit-2 : tie.Need-slice-aggregate-submit-2
+slice-aggregate-submit-2 c = search needs
+
+put-u32-requires : tie.Need-put-u32-requires
+put-u32-requires c κs = search needs
+
+put-u32-requires-2 : tie.Need-put-u32-requires-2
+put-u32-requires-2 c κs = search needs
+
+same-length-4 : tie.Need-same-length-4
+same-length-4 c = search needs
+
+same-length-5 : tie.Need-same-length-5
+same-length-5 c = search needs
+
+same-length-6 : tie.Need-same-length-6
+same-length-6 c = search needs
+
 pub submit-lent-spec : {M : Type 1} → statement M
 submit-lent-spec =
     tie.close
     (tie.spec
-    (λ c. search needs)
-    (λ c. search needs)
-    (λ c. search needs)
-    (λ c κs. search needs)
-    (λ c. search needs)
-    (λ c. search needs)
-    (λ c. search needs)
+    slice-aggregate-unpack-lent
+    slice-aggregate-unpack-lent-2
+    slice-aggregate-unpack-lent-3
+    unpack-lent-requires
+    same-length
+    same-length-2
+    same-length-3
     returns
-    (λ c. search needs)
-    (λ c. search needs)
+    slice-aggregate-submit
+    slice-aggregate-submit-2
     submit-requires
-    (λ c κs. search needs)
-    (λ c κs. search needs)
-    (λ c. search needs)
-    (λ c. search needs)
-    (λ c. search needs)
+    put-u32-requires
+    put-u32-requires-2
+    same-length-4
+    same-length-5
+    same-length-6
     returns-2)
