@@ -6,7 +6,10 @@ use rows::ROW_BYTES;
 use wire::bits_of_f32;
 use wire::bits_of_f64;
 use wire::u32_at;
+ghost use mathlib.Core.Path.{_≡_};
 ghost use Prim.Native.Nat.{_<_};
+ghost use Rattle.lent.specs.Numbers.{numbersAt};
+ghost use Rattle.answers.specs.Words.{nextWord, nextWords, doubleWords, colorWords, attachmentWords, lineWords};
 
 // A place in the list, and whether every word so far is the one that was answered.
 pub struct Place {
@@ -15,7 +18,9 @@ pub struct Place {
 }
 
 // The next word is this one.
-pub fn word(list: &[u8], p: Place, w: u32) -> Place {
+pub fn word(list: &[u8], p: Place, w: u32) -> Place
+    ensures { λ r. ⌜ r ≡ nextWord (now (list .entry)) p w ⌝ }
+{
     let at = p.at;
     let n = list.len();
     if n < 4 {
@@ -37,7 +42,9 @@ pub fn word(list: &[u8], p: Place, w: u32) -> Place {
 }
 
 // The next words are n numbers that stand in bytes from a place on.
-pub fn numbers(list: &[u8], p: Place, b: &[u8], from: u32, n: u32) -> Place {
+pub fn numbers(list: &[u8], p: Place, b: &[u8], from: u32, n: u32) -> Place
+    ensures { λ r. ⌜ r ≡ nextWords (now (list .entry)) p (numbersAt (now (b .entry)) from n) ⌝ }
+{
     let mut q = p;
     let mut i: u32 = 0;
     while i < n {
@@ -48,7 +55,9 @@ pub fn numbers(list: &[u8], p: Place, b: &[u8], from: u32, n: u32) -> Place {
 }
 
 // The next two words are the pattern of an f64, the low half first.
-fn double(list: &[u8], p: Place, x: f64) -> Place {
+fn double(list: &[u8], p: Place, x: f64) -> Place
+    ensures { λ r. ⌜ r ≡ nextWords (now (list .entry)) p (doubleWords x) ⌝ }
+{
     let bits = bits_of_f64(x);
     let low = bits % 0x1_0000_0000;
     let high = bits / 0x1_0000_0000;
@@ -56,7 +65,9 @@ fn double(list: &[u8], p: Place, x: f64) -> Place {
 }
 
 // The next eight words are a colour.
-fn color(list: &[u8], p: Place, c: Color) -> Place {
+fn color(list: &[u8], p: Place, c: Color) -> Place
+    ensures { λ r. ⌜ r ≡ nextWords (now (list .entry)) p (colorWords c) ⌝ }
+{
     let red = double(list, p, c.red);
     let green = double(list, red, c.green);
     let blue = double(list, green, c.blue);
@@ -64,7 +75,9 @@ fn color(list: &[u8], p: Place, c: Color) -> Place {
 }
 
 // The next fourteen words are an attachment.
-fn attachment(list: &[u8], p: Place, a: Attachment) -> Place {
+fn attachment(list: &[u8], p: Place, a: Attachment) -> Place
+    ensures { λ r. ⌜ r ≡ nextWords (now (list .entry)) p (attachmentWords a) ⌝ }
+{
     let view = word(list, p, a.view);
     let usage = word(list, view, a.usage);
     let ops = word(list, usage, a.ops);
@@ -91,7 +104,9 @@ fn attachments(list: &[u8], p: Place, count: u32, records: [Attachment; 17]) -> 
 }
 
 // The next words are the line of pass k: by its reply and the length of the discard list.
-fn line(list: &[u8], p: Place, k: u32, r: Reply, discards: u32) -> Place {
+fn line(list: &[u8], p: Place, k: u32, r: Reply, discards: u32) -> Place
+    ensures { λ q. ⌜ q ≡ nextWords (now (list .entry)) p (lineWords k r discards) ⌝ }
+{
     let pass = word(list, p, k);
     let number = word(list, pass, r.number);
     let place = word(list, number, r.place);

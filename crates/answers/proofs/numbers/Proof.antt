@@ -1,14 +1,35 @@
--- Safe: a place below 2 ^ 32 and four bytes for each of fewer than 2 ^ 32 numbers.
-use Prim.Native.Nat.{_-_}
+-- The invariant: the first i numbers are the words so far.
+use mathlib.Core.Path.{_≡_, refl, sym}
+use Prim.Native.Nat.{_-_, _≤_}
+use native.Mathlib.Omega.{arith}
+use native.Mathlib.Numerals.{add-one}
 use borrow.Author.Needs.{needs}
+use Rattle.lent.specs.Numbers.{numbersAt}
+use Rattle.answers.specs.Words.{nextWords}
+use Rattle.answers.proofs.Words.{words-append}
 use Rattle.answers.proofs.numbers.Statement.{statement}
 use Rattle.answers.proofs.numbers.Tie as tie
 
 abbrev Inv-loop : tie.InvT-loop
-Inv-loop list b from n q₀ i₀ q i = Unit {0}
+Inv-loop list b from n q₀ i₀ q i = (q ≡ nextWords list q₀ (numbersAt b from i)) × (i ≤ n)
 
 abbrev μ-loop : tie.MeasureT-loop
 μ-loop list b from n q₀ i₀ q i = n - i
+
+loop-holds : tie.Need-loop-holds Inv-loop μ-loop
+unfolding nextWords numbersAt
+loop-holds c = (refl, omega arith)
+
+loop-again : tie.Need-loop-again Inv-loop μ-loop
+unfolding nextWords numbersAt
+loop-again c =
+    let at = c .before .before .before .loop in
+    (rw add-one (simp (words-append, c .word .ensures, c .before .u32-at .ensures, at .inv .0)), omega arith)
+
+returns : tie.Need-returns Inv-loop μ-loop
+returns c =
+    let e : c .before .loop .i ≡ c .before .before .before .before .args .n = omega arith in
+    rw (sym e) (c .before .loop .inv .0)
 
 pub numbers-spec : {M : Type 1} → statement M
 numbers-spec =
@@ -16,7 +37,7 @@ numbers-spec =
     (tie.spec
     Inv-loop
     μ-loop
-    (λ c. search needs)
+    loop-holds
     (λ c. search needs)
     (λ c. search needs)
     (λ c. search needs)
@@ -24,5 +45,5 @@ numbers-spec =
     (λ c κs. search needs)
     (λ c. search needs)
     (λ c. search needs)
-    (λ c. search needs)
-    (λ c. search needs))
+    loop-again
+    returns)
