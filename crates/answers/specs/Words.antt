@@ -1,13 +1,15 @@
 -- The words of an answer, and what it means that they are the next ones of a list. harness/README.md has the list's form.
-use Prim.Native.Nat.{ℕ, zero, suc, _+_, _/_, _%_, _^_}
-use mathlib.Core.Bool.{false, cond, _&&_}
+use Prim.Native.Nat.{ℕ, zero, suc, _+_, _*_, _/_, _%_, _^_}
+use mathlib.Core.Bool.{Bool, false, cond, _&&_, _||_}
 use mathlib.Core.List.{List, [], _∷_, _++_}
-use lib.Dec.{leb, eqb}
+use lib.Dec.{leb, ltb, eqb}
 use lib.Ieee.{Float, binary32, binary64, toBits}
 use lib.ListN.{length}
 use Rattle.definition.specs.Bytes.{u32At}
 use Rattle.definition.specs.declared.Attachment.{Attachment}
 use Rattle.definition.specs.declared.Color.{Color}
+use Rattle.lent.specs.Numbers.{numbersAt}
+use Rattle.rows.specs.Rows.{rowBytes, rowNumbers}
 use Rattle.desk.specs.declared.reply.Reply.{Reply}
 use Rattle.answers.specs.declared.Place.{Place}
 
@@ -33,7 +35,40 @@ abbrev pub attachmentWords : Attachment → List ℕ
 attachmentWords a =
     (a .view ∷ a .usage ∷ a .ops ∷ a .«stencil_ops» ∷ []) ++ colorWords (a .color) ++ (toBits binary32 (a .depth) ∷ a .stencil ∷ [])
 
+-- The first n attachments.
+unfoldable pub attachmentsWords : List Attachment → ℕ → List ℕ
+attachmentsWords l zero = []
+attachmentsWords [] (suc n) = []
+attachmentsWords (a ∷ l) (suc n) = attachmentWords a ++ attachmentsWords l n
+
 -- The line of pass k: by its reply and the length of the discard list.
 abbrev pub lineWords : ℕ → Reply → ℕ → List ℕ
 lineWords k r discards =
     k ∷ r .number ∷ r .place ∷ r .earlier ∷ r .width ∷ r .height ∷ r .samples ∷ r .clears ∷ discards ∷ []
+
+-- What follows the line: flags, divergent aspect, attachments.
+abbrev pub restWords : Reply → List ℕ
+restWords r =
+    (r .«depth_read_only» ∷ r .«stencil_read_only» ∷ r .divergent ∷ r .count ∷ []) ++ attachmentsWords (r .attachments) (r .count)
+
+-- Document 01 withholds these numbers from the comparison.
+abbrev pub withheld : ℕ → Bool
+withheld n = ((eqb n 5 || eqb n 48) || eqb n 49) || eqb n 50
+
+-- Three numbers a surface, of at most a thousand.
+abbrev pub numbersOf : ℕ → ℕ
+numbersOf n = cond (ltb 1000 n) 0 (3 * n)
+
+-- The same words, compared in two ways.
+abbrev pub both : Place → Place → Place
+both p q = record { at = q .at; same = p .same && q .same }
+
+-- The next words are those of pass k: a mark, its line by the rows and by the reply, what follows, the clears and the discards.
+unfoldable pub nextReply : List ℕ → Place → ℕ → Reply → List ℕ → List ℕ → List ℕ → Place
+nextReply b p k r rows clears discards =
+    let start = nextWord b p 0 in
+    let held = u32At discards 0 in
+    let line = both (nextWords b start (numbersAt rows (rowBytes * k) rowNumbers)) (nextWords b start (lineWords k r held)) in
+    let rest = nextWords b line (restWords r) in
+    let cleared = nextWords b rest (numbersAt clears 4 (numbersOf (r .clears))) in
+    cond (withheld (r .number)) (nextWord b p 1) (nextWords b cleared (numbersAt discards 4 (numbersOf held)))

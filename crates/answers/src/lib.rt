@@ -9,7 +9,7 @@ use wire::u32_at;
 ghost use mathlib.Core.Path.{_≡_};
 ghost use Prim.Native.Nat.{_<_};
 ghost use Rattle.lent.specs.Numbers.{numbersAt};
-ghost use Rattle.answers.specs.Words.{nextWord, nextWords, doubleWords, colorWords, attachmentWords, lineWords};
+ghost use Rattle.answers.specs.Words.{nextWord, nextWords, doubleWords, colorWords, attachmentWords, attachmentsWords, lineWords, restWords, withheld, numbersOf, nextReply};
 
 // A place in the list, and whether every word so far is the one that was answered.
 pub struct Place {
@@ -89,7 +89,9 @@ fn attachment(list: &[u8], p: Place, a: Attachment) -> Place
 }
 
 // The next words are the attachments of a reply.
-fn attachments(list: &[u8], p: Place, count: u32, records: [Attachment; 17]) -> Place {
+fn attachments(list: &[u8], p: Place, count: u32, records: [Attachment; 17]) -> Place
+    ensures { λ r. ⌜ r ≡ nextWords (now (list .entry)) p (attachmentsWords records count) ⌝ }
+{
     let mut q = p;
     let mut i: usize = 0;
     while i < 17 {
@@ -119,7 +121,9 @@ fn line(list: &[u8], p: Place, k: u32, r: Reply, discards: u32) -> Place
 }
 
 // The next words are what follows the line: flags, divergent aspect, attachments.
-fn rest(list: &[u8], p: Place, r: Reply) -> Place {
+fn rest(list: &[u8], p: Place, r: Reply) -> Place
+    ensures { λ q. ⌜ q ≡ nextWords (now (list .entry)) p (restWords r) ⌝ }
+{
     let depth = word(list, p, r.depth_read_only);
     let stencil = word(list, depth, r.stencil_read_only);
     let divergent = word(list, stencil, r.divergent);
@@ -129,12 +133,16 @@ fn rest(list: &[u8], p: Place, r: Reply) -> Place {
 }
 
 // Document 01 withholds these numbers from the comparison.
-fn is_withheld(number: u32) -> bool {
+fn is_withheld(number: u32) -> bool
+    ensures { λ r. ⌜ r ≡ withheld number ⌝ }
+{
     (number == 5) | (number == 48) | (number == 49) | (number == 50)
 }
 
 // Three numbers a surface, of at most a thousand.
-fn numbers_of(surfaces: u32) -> u32 {
+fn numbers_of(surfaces: u32) -> u32
+    ensures { λ r. ⌜ r ≡ numbersOf surfaces ⌝ }
+{
     if surfaces > 1000 {
         return 0;
     }
@@ -152,6 +160,7 @@ pub fn reply(
     discards: &[u8],
 ) -> Place
     requires { ⌜ k < 100 ⌝ }
+    ensures { λ q. ⌜ q ≡ nextReply (now (list .entry)) p k r (now (rows .entry)) (now (clears .entry)) (now (discards .entry)) ⌝ }
 {
     if is_withheld(r.number) {
         return word(list, p, 1);
