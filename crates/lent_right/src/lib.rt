@@ -5,7 +5,7 @@ use definition::Surface;
 use memory_init::Counts;
 use records::range_at;
 use records::surface_at;
-use session::array_layers;
+use session::derived::array_layers;
 use session::texture;
 use session::texture_count;
 use surfaces::surfaces_before;

@@ -8,7 +8,7 @@ use definition::Slot;
 use memory_init::Counts;
 use memory_init::add_pass_texture_init_actions;
 use session::colors;
-use session::is_none;
+use session::derived::is_none;
 use session::slot;
 ghost use mathlib.Core.List.{_∷_, []};
 ghost use Rattle.definition.specs.MemoryInit.{applyPlan};

@@ -6,7 +6,7 @@ use attachments::empty_reply;
 use attachments::resolve_reply;
 use definition::Attachment;
 use definition::Slot;
-use session::is_none;
+use session::derived::is_none;
 use session::slot;
 ghost use mathlib.Core.Path.{_≡_};
 ghost use mathlib.Core.Bool.{not, _&&_};

@@ -11,7 +11,7 @@ use definition::Slot;
 use definition::Verdict;
 use memory_init::Counts;
 use session::colors;
-use session::is_none;
+use session::derived::is_none;
 use session::slot;
 use verdict::NOWHERE;
 use verdict::then;

@@ -1,11 +1,17 @@
--- Where the rows of the passes and their slots start.
+-- Where the rows of the passes and their slots start, and a slot's views.
 use Prim.Native.Nat.{ℕ, _+_, _*_}
 use mathlib.Core.List.{List}
 use Rattle.definition.specs.Sizes.{passBytes, slotStart, slotBytes}
 use Rattle.definition.specs.Session.{passStart}
+use Rattle.definition.specs.declared.Slot.{Slot}
+use Rattle.session.specs.declared.SlotViews.{SlotViews}
 
 abbrev pub passRow : List ℕ → ℕ → ℕ
 passRow s k = passStart s + passBytes * k
 
 abbrev pub slotRow : List ℕ → ℕ → ℕ → ℕ
 slotRow s pass k = passRow s pass + slotStart + slotBytes * k
+
+-- The views of a slot and its slice.
+abbrev pub viewsOf : Slot → SlotViews
+viewsOf c = record { view = c .view; slice = c .slice; resolve = c .resolve }

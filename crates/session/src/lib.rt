@@ -1,21 +1,27 @@
-// The header and rows of a session file, by value, and what is derived from them. Every byte string and every number has
+// The header and rows of a session file, by value. Every byte string and every number has
 // an answer, since a byte past the end reads as 0. No public function has a `requires`.
 use definition::Channel;
 use definition::Color;
-use definition::Range;
 use definition::Slot;
 use definition::Texture;
 use definition::View;
-use formats::mip_size;
 use wire::eight_at;
-use wire::f64_at;
-use wire::has_bit;
+use wire::f64_of_halves;
 use wire::u32_at;
 ghost use mathlib.Core.Path.{_≡_};
 ghost use Prim.Native.Nat.{_+_, _*_, _≤_};
 ghost use Rattle.definition.specs.Session as Se;
 ghost use Rattle.definition.specs.Session.{session};
-ghost use Rattle.session.specs.Rows.{passRow, slotRow};
+ghost use Rattle.session.specs.Rows.{passRow, slotRow, viewsOf};
+
+pub mod derived;
+
+// The views of a colour slot and the slice of its colour view.
+pub struct SlotViews {
+    pub view: u32,
+    pub slice: u32,
+    pub resolve: u32,
+}
 
 // Bytes of the header.
 pub const HEADER_BYTES: usize = 40;
@@ -82,42 +88,6 @@ const STENCIL: u32 = 36;
 
 // Where a slot's clear value starts.
 const SLOT_CLEAR: usize = 24;
-
-// The number that stands for no view.
-pub const NO_VIEW: u32 = 0xffff_ffff;
-
-// The bit of flag 1, strict.
-const STRICT: u32 = 0;
-
-// The bit of flag 2, MULTIVIEW.
-const MULTIVIEW: u32 = 1;
-
-// The bit of flag 4, SELECTIVE_MULTIVIEW.
-const SELECTIVE_MULTIVIEW: u32 = 2;
-
-// The bit of flag 8, READ_ONLY_DEPTH_STENCIL.
-const READ_ONLY_DEPTH_STENCIL: u32 = 3;
-
-// The dimension of a 3D texture.
-const TEXTURE_D3: u32 = 3;
-
-// View dimension D2.
-const D2: u32 = 2;
-
-// View dimension D2Array.
-const D2_ARRAY: u32 = 3;
-
-// View dimension D3.
-const D3: u32 = 6;
-
-// The bit of usage 4, W3C TEXTURE_BINDING.
-const TEXTURE_BINDING: u32 = 2;
-
-// The bit of usage 16, W3C RENDER_ATTACHMENT.
-const RENDER_ATTACHMENT: u32 = 4;
-
-// The bit of usage 32, W3C TRANSIENT_ATTACHMENT.
-const TRANSIENT: u32 = 5;
 
 // The number of texture rows.
 pub fn texture_count(s: &[u8]) -> u32
@@ -279,16 +249,16 @@ fn slot_at(s: &[u8], pass: u32, k: u32) -> usize
     pass_at(s, pass) + SLOT_START + SLOT_BYTES * (k as usize)
 }
 
-// The clear value of slot k.
-fn slot_clear(s: &[u8], pass: u32, k: u32) -> Color
-    ensures { λ r. ⌜ r ≡ Se.colorAt (now (s .entry)) (slotRow (now (s .entry)) pass k + 24) ⌝ }
+// The four numbers of a colour, from a place on.
+fn color_at(s: &[u8], at: usize) -> Color
+    ensures { λ r. ⌜ r ≡ Se.colorAt (now (s .entry)) at ⌝ }
 {
-    let at = slot_at(s, pass, k) + SLOT_CLEAR;
+    let row = eight_at(s, at);
     Color {
-        red: f64_at(s, at),
-        green: f64_at(s, at + 8),
-        blue: f64_at(s, at + 16),
-        alpha: f64_at(s, at + 24),
+        red: f64_of_halves(row.n0, row.n1),
+        green: f64_of_halves(row.n2, row.n3),
+        blue: f64_of_halves(row.n4, row.n5),
+        alpha: f64_of_halves(row.n6, row.n7),
     }
 }
 
@@ -296,7 +266,8 @@ fn slot_clear(s: &[u8], pass: u32, k: u32) -> Color
 pub fn slot(s: &[u8], pass: u32, k: u32) -> Slot
     ensures { λ r. ⌜ r ≡ session (now (s .entry)) .pass pass .slot k ⌝ }
 {
-    let row = eight_at(s, slot_at(s, pass, k));
+    let at = slot_at(s, pass, k);
+    let row = eight_at(s, at);
     Slot {
         view: row.n0,
         sliced: row.n1,
@@ -304,147 +275,18 @@ pub fn slot(s: &[u8], pass: u32, k: u32) -> Slot
         resolve: row.n3,
         load: row.n4,
         store: row.n5,
-        clear: slot_clear(s, pass, k),
+        clear: color_at(s, at + SLOT_CLEAR),
     }
 }
 
-// Whether the number stands for no view.
-pub fn is_none(v: u32) -> bool
-    ensures { λ r. ⌜ r ≡ Se.isNone v ⌝ }
+// The views of slot k and its slice, which tell the surfaces that it takes.
+pub fn slot_views(s: &[u8], pass: u32, k: u32) -> SlotViews
+    ensures { λ r. ⌜ r ≡ viewsOf (session (now (s .entry)) .pass pass .slot k) ⌝ }
 {
-    v == NO_VIEW
-}
-
-// Flag 1: strict.
-pub fn strict(s: &[u8]) -> bool
-    ensures { λ r. ⌜ r ≡ Se.strict (session (now (s .entry))) ⌝ }
-{
-    has_bit(flags(s), STRICT)
-}
-
-// Flag 2: MULTIVIEW.
-pub fn multiview(s: &[u8]) -> bool
-    ensures { λ r. ⌜ r ≡ Se.multiview (session (now (s .entry))) ⌝ }
-{
-    has_bit(flags(s), MULTIVIEW)
-}
-
-// Flag 4: SELECTIVE_MULTIVIEW.
-pub fn selective_multiview(s: &[u8]) -> bool
-    ensures { λ r. ⌜ r ≡ Se.selectiveMultiview (session (now (s .entry))) ⌝ }
-{
-    has_bit(flags(s), SELECTIVE_MULTIVIEW)
-}
-
-// Flag 8: READ_ONLY_DEPTH_STENCIL.
-pub fn read_only_depth_stencil(s: &[u8]) -> bool
-    ensures { λ r. ⌜ r ≡ Se.readOnlyDepthStencil (session (now (s .entry))) ⌝ }
-{
-    has_bit(flags(s), READ_ONLY_DEPTH_STENCIL)
-}
-
-// W3C "array layer count": a 3D texture has one layer.
-pub fn array_layers(t: Texture) -> u32
-    ensures { λ r. ⌜ r ≡ Se.arrayLayers t ⌝ }
-{
-    if t.dimension == TEXTURE_D3 {
-        1
-    } else {
-        t.depth
+    let row = eight_at(s, slot_at(s, pass, k));
+    SlotViews {
+        view: row.n0,
+        slice: row.n2,
+        resolve: row.n3,
     }
-}
-
-// A view's format: its texture's.
-pub fn format_of(s: &[u8], v: View) -> u32
-    ensures { λ r. ⌜ r ≡ Se.formatOf (session (now (s .entry))) v ⌝ }
-{
-    let t = texture(s, v.texture);
-    t.format
-}
-
-// A view's samples: its texture's.
-pub fn samples_of(s: &[u8], v: View) -> u32
-    ensures { λ r. ⌜ r ≡ Se.samplesOf (session (now (s .entry))) v ⌝ }
-{
-    let t = texture(s, v.texture);
-    t.samples
-}
-
-// A view's width at its first mip.
-pub fn width_of(s: &[u8], v: View) -> u32
-    ensures { λ r. ⌜ r ≡ Se.widthOf (session (now (s .entry))) v ⌝ }
-{
-    let t = texture(s, v.texture);
-    mip_size(t.width, v.mip)
-}
-
-// A view's height at its first mip.
-pub fn height_of(s: &[u8], v: View) -> u32
-    ensures { λ r. ⌜ r ≡ Se.heightOf (session (now (s .entry))) v ⌝ }
-{
-    let t = texture(s, v.texture);
-    mip_size(t.height, v.mip)
-}
-
-// A view's mip depth.
-pub fn depth_of(s: &[u8], v: View) -> u32
-    ensures { λ r. ⌜ r ≡ Se.depthOf (session (now (s .entry))) v ⌝ }
-{
-    let t = texture(s, v.texture);
-    mip_size(t.depth, v.mip)
-}
-
-// The view's surfaces.
-pub fn view_range(v: View) -> Range
-    ensures { λ r. ⌜ r ≡ Se.viewRange v ⌝ }
-{
-    Range {
-        texture: v.texture,
-        mip: v.mip,
-        mips: v.mips,
-        layer: v.layer,
-        layers: v.layers,
-    }
-}
-
-// Whether a view is D2.
-pub fn is_d2(v: View) -> bool
-    ensures { λ r. ⌜ r ≡ Se.isD2 v ⌝ }
-{
-    v.dimension == D2
-}
-
-// Whether a view is D2Array.
-pub fn is_d2_array(v: View) -> bool
-    ensures { λ r. ⌜ r ≡ Se.isD2Array v ⌝ }
-{
-    v.dimension == D2_ARRAY
-}
-
-// Whether a view is D3.
-pub fn is_d3(v: View) -> bool
-    ensures { λ r. ⌜ r ≡ Se.isD3 v ⌝ }
-{
-    v.dimension == D3
-}
-
-// Whether a view has usage 4, TEXTURE_BINDING.
-pub fn texture_binding(v: View) -> bool
-    ensures { λ r. ⌜ r ≡ Se.textureBinding v ⌝ }
-{
-    has_bit(v.usage, TEXTURE_BINDING)
-}
-
-// Whether a view has usage 16, RENDER_ATTACHMENT.
-pub fn render_attachment(v: View) -> bool
-    ensures { λ r. ⌜ r ≡ Se.renderAttachment v ⌝ }
-{
-    has_bit(v.usage, RENDER_ATTACHMENT)
-}
-
-// Whether a view has usage 32, TRANSIENT_ATTACHMENT.
-pub fn transient(v: View) -> bool
-    ensures { λ r. ⌜ r ≡ Se.transient v ⌝ }
-{
-    has_bit(v.usage, TRANSIENT)
 }

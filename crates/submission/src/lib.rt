@@ -9,7 +9,7 @@ use records::first_of;
 use records::kind_at;
 use records::range_at;
 use records::surface_at;
-use session::array_layers;
+use session::derived::array_layers;
 use session::texture;
 use session::texture_count;
 use surfaces::surfaces_in;

@@ -2,7 +2,7 @@
 // stops at one past the most surfaces that a session has, and no public function has a `requires`.
 use definition::Surface;
 use definition::Texture;
-use session::array_layers;
+use session::derived::array_layers;
 use session::texture;
 ghost use mathlib.Core.Path.{_≡_};
 ghost use Prim.Native.Nat.{_+_, _*_, _≤_, min};

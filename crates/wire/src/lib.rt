@@ -1,10 +1,10 @@
 // Little-endian numbers and floats, read from bytes and written into them. Every position has an answer: past the end a
 // byte reads as 0, and a number that does not fit whole is not written. No public function has a `requires`.
 ghost use mathlib.Core.Path.{_≡_};
-ghost use Prim.Native.Nat.{_+_, _≤_, _<_};
+ghost use Prim.Native.Nat.{_+_, _*_, _^_, _≤_, _<_};
 ghost use lib.ListN.{length, getD};
 ghost use lib.Ieee.{binary32, binary64, toBits};
-ghost use Rattle.definition.specs.Bytes.{u32At, f32OfBits, f64OfBits, f64At, bit};
+ghost use Rattle.definition.specs.Bytes.{u32At, f32OfBits, f64OfBits, bit};
 ghost use Rattle.wire.specs.Reading.{eightAt};
 ghost use Rattle.wire.specs.Writing.{putBytes, putNumber};
 
@@ -180,23 +180,11 @@ pub fn bits_of_f64(x: f64) -> u64
     f64::to_bits(x)
 }
 
-// Eight bytes as an f64, the lowest first.
-pub fn f64_at(s: &[u8], at: usize) -> f64
-    ensures { λ r. ⌜ r ≡ f64At (now (s .entry)) at ⌝ }
+// The f64 of a pattern's two halves.
+pub fn f64_of_halves(low: u32, high: u32) -> f64
+    ensures { λ r. ⌜ r ≡ f64OfBits (low + 2 ^ 32 * high) ⌝ }
 {
-    let low = u32_at(s, at) as u64;
-    let high = u32_four_on(s, at) as u64;
-    f64_of_bits(low + 0x1_0000_0000 * high)
-}
-
-// The u32 four bytes after a place.
-fn u32_four_on(s: &[u8], at: usize) -> u32
-    ensures { λ r. ⌜ r ≡ u32At (now (s .entry)) (at + 4) ⌝ }
-{
-    if at >= s.len() {
-        return 0;
-    }
-    u32_at(s, at + 4)
+    f64_of_bits(low as u64 + 0x1_0000_0000 * (high as u64))
 }
 
 // Writes the lowest k bytes of n, the lowest first.

@@ -8,7 +8,7 @@ returns : tie.Need-returns
 unfolding session
 returns c =
     let row = c .before in
-    simp (c .slot-clear .ensures, row .eight-at .ensures, row .before .slot-at .ensures .0)
+    simp (c .color-at .ensures, row .eight-at .ensures, row .before .slot-at .ensures .0)
 
 pub slot-spec : {M : Type 1} → statement M
-slot-spec = tie.close (tie.spec (λ c κs. search needs) (λ c κs. search needs) (λ c κs. search needs) returns)
+slot-spec = tie.close (tie.spec (λ c κs. search needs) (λ c κs. search needs) (λ c. search needs) (λ c κs. search needs) returns)

@@ -1,5 +1,6 @@
 -- A range meets what a slot takes where it meets the resolve target or the colour view.
-use mathlib.Core.Path.{sym, _∙_}
+use mathlib.Core.Path.{sym, ap, _∙_}
+use Rattle.definition.specs.Session.{isNone}
 use Rattle.definition.specs.Surfaces.{layersOf}
 use Rattle.laws.proofs.Overlap.{meets-nil, meets-append}
 use borrow.Author.Needs.{needs}
@@ -7,10 +8,12 @@ use Rattle.views.proofs.overlap.slot_meets.Statement.{statement}
 use Rattle.views.proofs.overlap.slot_meets.Tie as tie
 
 returns : tie.Need-returns
-returns c = simp (sym (c .before .is-none .ensures) ∙ c .if1 .taken) (sym (meets-nil (layersOf (c .before .before .before .args .a))))
+returns c x e =
+    simp (ap (λ q. isNone (q .view)) (sym e) ∙ sym (c .before .is-none .ensures) ∙ c .if1 .taken)
+    (sym (meets-nil (layersOf (c .before .before .before .args .a))))
 
 returns-2 : tie.Need-returns-2
-returns-2 c =
+returns-2 c x e =
     let c4 = c .before .before .before .before in
     let c5 = c4 .before in
     let c6 = c5 .before in
@@ -18,12 +21,13 @@ returns-2 c =
       c .before .before .layers-meet .ensures,
       c .before .before .before .range-taken .ensures,
       c4 .view .ensures,
-      sym (c6 .is-none .ensures) ∙ c5 .if1 .left,
-      sym (c .before .is-none2 .ensures) ∙ c .if2 .taken,
+      e,
+      ap (λ q. isNone (q .view)) (sym e) ∙ sym (c6 .is-none .ensures) ∙ c5 .if1 .left,
+      ap (λ q. isNone (q .resolve)) (sym e) ∙ sym (c .before .is-none2 .ensures) ∙ c .if2 .taken,
     )
 
 returns-3 : tie.Need-returns-3
-returns-3 c =
+returns-3 c x e =
     let c4 = c .before .before .before .before in
     let c5 = c4 .before in
     let c6 = c5 .before in
@@ -38,8 +42,9 @@ returns-3 c =
       c5 .layers-meet .ensures,
       c6 .range-taken .ensures,
       c7 .view .ensures,
-      sym (c9 .is-none .ensures) ∙ c8 .if1 .left,
-      sym (c4 .is-none2 .ensures) ∙ c .before .before .before .if2 .left,
+      e,
+      ap (λ q. isNone (q .view)) (sym e) ∙ sym (c9 .is-none .ensures) ∙ c8 .if1 .left,
+      ap (λ q. isNone (q .resolve)) (sym e) ∙ sym (c4 .is-none2 .ensures) ∙ c .before .before .before .if2 .left,
     )
     (sym (meets-append (layersOf (c11 .args .a)) _ _))
 

@@ -3,7 +3,10 @@ use mathlib.Core.Path.{_≡_, sym}
 use Prim.Native.Nat.{_≤_, _-_}
 use native.Mathlib.Omega.{arith}
 use borrow.Author.Needs.{needs}
+use denote.Ref.{now}
+use Rattle.definition.specs.Session.{session}
 use Rattle.definition.specs.Surfaces.{layersOf, meets}
+use Rattle.definition.specs.declared.Slot.{Slot}
 use Rattle.views.specs.Taken.{takenIn}
 use Rattle.laws.proofs.Overlap.{meets-nil, meets-append}
 use Rattle.laws.proofs.Folds.{taken-none, taken-turn}
@@ -21,10 +24,11 @@ loop-holds c = (simp taken-none (sym (meets-nil (layersOf (c .before .args .a)))
 
 loop-again : tie.Need-loop-again Inv-loop μ-loop
 loop-again c =
-    let range = layersOf (c .before .before .before .before .before .args .a) in (
+    let args = c .before .before .before .before .before .args in
+    let range = layersOf (args .a) in
+    let x : Slot = session (now (args .s)) .pass (args .pass) .slot (c .before .before .before .loop .j) in (
       simp (
-        c .slot-meets .ensures,
-        c .before .slot .ensures,
+        c .slot-meets .ensures x (c .before .slot-views .ensures),
         c .before .before .before .loop .inv .0,
         taken-turn,
       )

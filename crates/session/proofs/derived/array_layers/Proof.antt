@@ -1,8 +1,8 @@
 -- The branch is the definition's.
 use borrow.Author.Tests.{eq-eqb, ne-eqb}
 use Rattle.definition.specs.Session.{arrayLayers}
-use Rattle.session.proofs.array_layers.Statement.{statement}
-use Rattle.session.proofs.array_layers.Tie as tie
+use Rattle.session.proofs.derived.array_layers.Statement.{statement}
+use Rattle.session.proofs.derived.array_layers.Tie as tie
 
 returns : tie.Need-returns
 unfolding arrayLayers
