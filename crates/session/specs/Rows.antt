@@ -1,10 +1,15 @@
--- Where the rows of the passes and their slots start, and a slot's views.
+-- View rows by the textures before them, where the rows of the passes and their slots start, and a slot's views.
 use Prim.Native.Nat.{ℕ, _+_, _*_}
 use mathlib.Core.List.{List}
-use Rattle.definition.specs.Sizes.{passBytes, slotStart, slotBytes}
-use Rattle.definition.specs.Session.{passStart}
+use Rattle.definition.specs.Sizes.{headerBytes, textureBytes, viewBytes, passBytes, slotStart, slotBytes}
+use Rattle.definition.specs.Session.{passStart, viewAt}
 use Rattle.definition.specs.declared.Slot.{Slot}
+use Rattle.definition.specs.declared.View.{View}
 use Rattle.session.specs.declared.SlotViews.{SlotViews}
+
+-- View row k, after so many textures.
+abbrev pub viewAfter : List ℕ → ℕ → ℕ → View
+viewAfter s textures k = viewAt s (headerBytes + textureBytes * textures + viewBytes * k)
 
 abbrev pub passRow : List ℕ → ℕ → ℕ
 passRow s k = passStart s + passBytes * k

@@ -12,7 +12,7 @@ ghost use mathlib.Core.Path.{_≡_};
 ghost use Prim.Native.Nat.{_+_, _*_, _≤_};
 ghost use Rattle.definition.specs.Session as Se;
 ghost use Rattle.definition.specs.Session.{session};
-ghost use Rattle.session.specs.Rows.{passRow, slotRow, viewsOf};
+ghost use Rattle.session.specs.Rows.{viewAfter, passRow, slotRow, viewsOf};
 
 pub mod derived;
 
@@ -162,11 +162,12 @@ pub fn texture(s: &[u8], k: u32) -> Texture
     }
 }
 
-// View row k.
-pub fn view(s: &[u8], k: u32) -> View
-    ensures { λ r. ⌜ r ≡ session (now (s .entry)) .view k ⌝ }
+// View row k, after so many textures.
+pub fn view_after(s: &[u8], textures: u32, k: u32) -> View
+    ensures { λ r. ⌜ r ≡ viewAfter (now (s .entry)) textures k ⌝ }
 {
-    let row = eight_at(s, view_start(s) + VIEW_BYTES * (k as usize));
+    let start = HEADER_BYTES + TEXTURE_BYTES * (textures as usize);
+    let row = eight_at(s, start + VIEW_BYTES * (k as usize));
     View {
         texture: row.n0,
         dimension: row.n1,
@@ -177,6 +178,13 @@ pub fn view(s: &[u8], k: u32) -> View
         usage: row.n6,
         resolvable: row.n7,
     }
+}
+
+// View row k.
+pub fn view(s: &[u8], k: u32) -> View
+    ensures { λ r. ⌜ r ≡ session (now (s .entry)) .view k ⌝ }
+{
+    view_after(s, texture_count(s), k)
 }
 
 // Where pass row k starts.

@@ -14,17 +14,17 @@ use Rattle.views.proofs.overlap.slots_meet.Statement.{statement}
 use Rattle.views.proofs.overlap.slots_meet.Tie as tie
 
 abbrev Inv-loop : tie.InvT-loop
-Inv-loop s pass k a met₀ j₀ met j = (met ≡ meets (layersOf a) (takenIn s pass j)) × (j ≤ k)
+Inv-loop s pass k a textures₀ met₀ j₀ met j = (met ≡ meets (layersOf a) (takenIn s pass j)) × (j ≤ k)
 
 abbrev μ-loop : tie.MeasureT-loop
-μ-loop s pass k a met₀ j₀ met j = k - j
+μ-loop s pass k a textures₀ met₀ j₀ met j = k - j
 
 loop-holds : tie.Need-loop-holds Inv-loop μ-loop
-loop-holds c = (simp taken-none (sym (meets-nil (layersOf (c .before .args .a)))), omega arith)
+loop-holds c = (simp taken-none (sym (meets-nil (layersOf (c .before .before .args .a)))), omega arith)
 
 loop-again : tie.Need-loop-again Inv-loop μ-loop
 loop-again c =
-    let args = c .before .before .before .before .before .args in
+    let args = c .before .before .before .before .before .before .args in
     let range = layersOf (args .a) in
     let x : Slot = session (now (args .s)) .pass (args .pass) .slot (c .before .before .before .loop .j) in (
       simp (
@@ -38,7 +38,7 @@ loop-again c =
 
 returns : tie.Need-returns Inv-loop μ-loop
 returns c =
-    let e : c .before .loop .j ≡ c .before .before .before .args .k = omega arith in
+    let e : c .before .loop .j ≡ c .before .before .before .before .args .k = omega arith in
     simp (sym e, c .before .loop .inv .0)
 
 pub slots-meet-spec : {M : Type 1} → statement M
@@ -47,6 +47,7 @@ slots-meet-spec =
     (tie.spec
     Inv-loop
     μ-loop
+    (λ c κs. search needs)
     loop-holds
     (λ c κs. search needs)
     (λ c κs. search needs)
