@@ -3,6 +3,7 @@ use definition::Attachment;
 use definition::Color;
 use desk::reply::Reply;
 use rows::ROW_BYTES;
+use rows::ROW_NUMBERS;
 use wire::bits_of_f32;
 use wire::bits_of_f64;
 use wire::u32_at;
@@ -167,13 +168,7 @@ pub fn reply(
     }
     let held = u32_at(discards, 0);
     let start = word(list, p, 0);
-    let by_row = numbers(
-        list,
-        start,
-        rows,
-        ROW_BYTES as u32 * k,
-        ROW_BYTES as u32 / 4,
-    );
+    let by_row = numbers(list, start, rows, ROW_BYTES as u32 * k, ROW_NUMBERS as u32);
     let by_reply = line(list, start, k, r, held);
     let both = Place {
         at: by_reply.at,

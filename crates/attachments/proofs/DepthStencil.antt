@@ -1,7 +1,7 @@
 -- The depth-stencil attachment of a pass by whether its view is none, and what the reply asks of the first attachment.
 use Prim.Native.Nat.{ℕ, zero, suc}
 use mathlib.Core.Path.{_≡_, refl, sym, ap, subst, _∙_}
-use mathlib.Core.Bool.{Bool, true, false, cond}
+use mathlib.Core.Bool.{Bool, true, false}
 use mathlib.Core.List.{List, [], _∷_, _++_}
 use lib.Ieee.{Float}
 use Rattle.definition.specs.Formats.{hasDepth, hasStencil}

@@ -2,7 +2,6 @@
 // It tells before any lent list is written whether every step has room for its discards, and the end for its actions.
 use definition::MemoryInitKind;
 use definition::Range;
-use definition::Surface;
 use memory_init::Counts;
 use memory_init::InitKind;
 use memory_init::discard;
@@ -20,10 +19,11 @@ ghost use Rattle.definition.specs.Pass.{newPass};
 ghost use Rattle.memory_init.specs.Lent.{held, initKind};
 ghost use Rattle.course.specs.Course.{Counted, Tracks, returnedBy};
 
-// The room of the lent lists of discards and actions.
+// The room of the lent list of discards.
 const MAX_DISCARDS: usize = 64;
 
-const MAX_ACTIONS: usize = 512;
+// The room of the lent list of actions.
+pub const MAX_ACTIONS: usize = 512;
 
 // How many discards the copy holds, how many actions there would be, and whether every step so far has fitted.
 pub struct Course {

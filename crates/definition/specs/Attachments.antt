@@ -1,12 +1,12 @@
 -- The resolved attachments of a pass: what each does to the lists, and the divergent aspect.
-use mathlib.Core.Bool.{Bool, true, false, not, _&&_, _||_, cond, Bool·beq}
+use mathlib.Core.Bool.{Bool, false, not, _&&_, _||_, cond, Bool·beq}
 use mathlib.Core.List.{List, [], _∷_, _++_}
 use mathlib.Core.Option.{Option, none, some}
 use Prim.Native.Nat.{ℕ, zero, suc}
 use lib.Ieee.{Float}
 use Rattle.definition.specs.Formats.{hasDepth, hasStencil}
 use Rattle.definition.specs.Session.{Pass, Session, isNone, strict, formatOf, viewRange}
-use Rattle.definition.specs.Channel.{LoadOp, Ops, operational, keepOf, depthResolved, stencilResolved, resolvedOps, loads, sameLoad}
+use Rattle.definition.specs.Channel.{Ops, operational, keepOf, depthResolved, stencilResolved, resolvedOps, loads, sameLoad}
 use Rattle.definition.specs.Check.{slotLoad}
 use Rattle.definition.specs.MemoryInit.{Lists, applyPlan}
 use Rattle.definition.specs.declared.View.{View}

@@ -8,7 +8,7 @@ use Rattle.definition.specs.Session.{Pass, Session, isNone, strict, sele
 use Rattle.definition.specs.Readable.{passReads}
 use Rattle.definition.specs.Verdict.{resolveAt, atDepthStencil, nowhere, fine, isFine, refusedAt, _then_, unless}
 use Rattle.definition.specs.Channel.{LoadOp, loadOf, keepOf, ignores, transientOps, depthChannel, stencilChannel, transientChannel, depthResolved, stencilResolved, resolvedVerdict}
-use Rattle.definition.specs.Views.{noneSeen, isFirst, takes, depthStencilView, colorView, resolveView, seeView}
+use Rattle.definition.specs.Views.{noneSeen, takes, depthStencilView, colorView, resolveView, seeView}
 use Rattle.definition.specs.declared.View.{View}
 use Rattle.definition.specs.declared.Channel.{Channel}
 use Rattle.definition.specs.declared.Color.{Color}

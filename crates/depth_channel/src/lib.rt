@@ -158,18 +158,21 @@ fn with_answer(answer: Answer, x: f32) -> DepthAnswer
 }
 
 impl DepthChannel {
+    // The load that is asked for.
     pub fn load(self) -> DepthLoadField
         ensures { λ r. ⌜ askedField (self .given) (fieldIn r) ≡ channelIn self .load ⌝ }
     {
         self.load
     }
 
+    // The store that is asked for.
     pub fn store(self) -> StoreField
         ensures { λ r. ⌜ storeIn r ≡ channelIn self .store ⌝ }
     {
         self.store
     }
 
+    // Whether the channel is only read.
     pub fn is_readonly(self) -> bool
         ensures { λ r. ⌜ r ≡ channelIn self .readOnly ⌝ }
     {
@@ -229,6 +232,7 @@ pub fn depth_resolved(has: bool, strict: bool, c: Channel) -> DepthAnswer
 }
 
 impl DepthAnswer {
+    // Fine for a channel, else its refusal.
     pub fn verdict(self) -> Verdict
         ensures { λ r. ⌜ r ≡ Ch.resolvedVerdict (answerIn self) ⌝ }
     {
@@ -277,6 +281,7 @@ impl ResolvedDepth {
         self.operations().hal_ops()
     }
 
+    // Whether the channel is only read.
     pub fn is_readonly(self) -> bool
         ensures { λ r. ⌜ r ≡ opsIn self .readOnly ⌝ }
     {

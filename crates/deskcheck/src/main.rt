@@ -123,6 +123,7 @@ fn answer(out: &mut [u8]) -> Input
     }
 }
 
+// Reads standard input, and prints what the definition says of it.
 fn main() {
     let mut out = [0u8; PRINTED_BYTES];
     let text = answer(&mut out);

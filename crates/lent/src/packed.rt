@@ -4,7 +4,7 @@ use crate::write_numbers;
 use wire::put_u32;
 use wire::u32_at;
 ghost use mathlib.Core.Path.{_≡_};
-ghost use Prim.Native.Nat.{_+_, _*_, _≤_, _<_};
+ghost use Prim.Native.Nat.{_*_, _≤_, _<_};
 ghost use lib.ListN.{length, take, drop};
 ghost use Rattle.lent.specs.Numbers.{numbersAt};
 ghost use Rattle.lent.specs.Packed.{listBytes, countIn};

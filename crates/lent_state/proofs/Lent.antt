@@ -10,7 +10,6 @@ use Rattle.definition.specs.Sizes.{maxDiscards, maxActions, maxClears, maxSurfa
 use Rattle.definition.specs.Session.{Session, session}
 use Rattle.definition.specs.Calls.{lentRight}
 use Rattle.laws.proofs.Tests.{clash, or-off-left, or-off-right}
-use Rattle.lists.specs.Records.{records}
 use Rattle.lent.specs.Numbers.{numbersAt}
 use Rattle.lent.proofs.Numbers.{whole-numbers}
 use Rattle.lists.proofs.Records.{records-same}

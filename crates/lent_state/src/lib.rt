@@ -12,6 +12,18 @@ ghost use Rattle.lent_state.specs.Lent.{discardBytes, actionBytes, clear
 ghost use Rattle.memory_init.specs.Lent.{Within};
 ghost use Rattle.lent_state.specs.Unpacked.{Unpacks, Packed};
 
+// Bytes of the lent discards: a count and 64 records of three numbers.
+pub const DISCARD_BYTES: usize = 772;
+
+// Bytes of the lent actions: a count and 512 records of six numbers.
+pub const ACTION_BYTES: usize = 12292;
+
+// Bytes of the lent clears: a count and 80 records of three numbers.
+pub const CLEAR_BYTES: usize = 964;
+
+// Bytes of the lent status: one for each surface that a session may have.
+pub const STATUS_BYTES: usize = 4096;
+
 // How many entries each list has, and whether all that is lent is in range.
 pub struct Unpacked {
     pub right: bool,
@@ -22,7 +34,10 @@ pub struct Unpacked {
 pub fn is_short(discards: &[u8], actions: &[u8], clears: &[u8], status: &[u8]) -> bool
     ensures { λ r. ⌜ r ≡ short (now (discards .entry)) (now (actions .entry)) (now (clears .entry)) (now (status .entry)) ⌝ }
 {
-    (discards.len() < 772) | (actions.len() < 12292) | (clears.len() < 964) | (status.len() < 4096)
+    (discards.len() < DISCARD_BYTES)
+        | (actions.len() < ACTION_BYTES)
+        | (clears.len() < CLEAR_BYTES)
+        | (status.len() < STATUS_BYTES)
 }
 
 // Unpacks the three lists, and tests them and the status bytes.

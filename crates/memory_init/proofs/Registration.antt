@@ -10,7 +10,6 @@ use Rattle.definition.specs.Surfaces.{hits, firstOf, named}
 use Rattle.definition.specs.MemoryInit.{Lists, implicitAt, matching, registerInitAction, discarded}
 use Rattle.definition.specs.declared.Surface.{Surface}
 use Rattle.definition.specs.declared.Range.{Range}
-use Rattle.definition.specs.declared.MemoryInitKind.{MemoryInitKind}
 use Rattle.definition.specs.declared.MemoryInitKind.the-variants.{ImplicitlyInitialized, NeedsInitializedMemory}
 use Rattle.lists.specs.Records.{Appended, Retained}
 use Rattle.lists.proofs.Records.{records-length, past-more, append-twice, append-count}

@@ -10,7 +10,6 @@ use records::put_action;
 use records::put_surface;
 use records::surface_at;
 ghost use mathlib.Core.Bool.{not};
-ghost use mathlib.Core.Path.{_≡_};
 ghost use Prim.Native.Nat.{ℕ, _+_, _*_, _≤_};
 ghost use mathlib.Core.List.{List, _∷_, [], map};
 ghost use lib.ListN.{length};

@@ -20,34 +20,42 @@ ghost use Rattle.memory_init.specs.Lent.{initKind};
 ghost use Rattle.plan.specs.Plan.{kindBy, plans, plansRegular, byFirst, plansDiverged, plansDepthStencil, usageBy};
 ghost use Rattle.definition.specs.declared.MemoryInitKind.the-variants.{ImplicitlyInitialized};
 
-// TextureUses.
+// TextureUses::COLOR_TARGET.
 pub const COLOR_TARGET: u32 = 1;
 
+// TextureUses::DEPTH_STENCIL_READ.
 pub const DEPTH_STENCIL_READ: u32 = 2;
 
+// The same with RESOURCE: the view can be bound as a texture.
 pub const DEPTH_STENCIL_READ_RESOURCE: u32 = 3;
 
+// TextureUses::DEPTH_STENCIL_WRITE.
 pub const DEPTH_STENCIL_WRITE: u32 = 4;
 
-// The aspect that diverges.
+// No aspect diverges.
 pub const NO_ASPECT: u32 = 0;
 
+// The depth diverges.
 pub const DEPTH: u32 = 1;
 
+// The stencil diverges.
 pub const STENCIL: u32 = 2;
 
+// What an attachment does to the lists: the action that it registers, whether it lists a discard, and the aspect that diverges.
 pub struct Plan {
     pub kind: InitKind,
     pub discards: bool,
     pub divergent: u32,
 }
 
+// The kind a if the test holds, else b.
 fn either(test: bool, a: InitKind, b: InitKind) -> InitKind
     ensures { λ r. ⌜ initKind r ≡ cond test (initKind a) (initKind b) ⌝ }
 {
     if test { a } else { b }
 }
 
+// The number a if the test holds, else b.
 fn pick(test: bool, a: u32, b: u32) -> u32
     ensures { λ r. ⌜ r ≡ cond test a b ⌝ }
 {

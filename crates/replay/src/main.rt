@@ -7,8 +7,13 @@ use answers::word;
 use desk::deskcheck_pass;
 use desk::deskcheck_session;
 use desk::deskcheck_submit;
+use lent_state::ACTION_BYTES;
+use lent_state::CLEAR_BYTES;
+use lent_state::DISCARD_BYTES;
+use lent_state::STATUS_BYTES;
 use libc::STDIN_FILENO;
 use libc::STDOUT_FILENO;
+use rows::ROWS_BYTES;
 use session::ends;
 use session::pass_count;
 use session::texture_count;
@@ -80,10 +85,10 @@ fn passes(
     p: Place,
     session: &[u8],
     rows: &[u8],
-    discards: &mut [u8; 772],
-    actions: &mut [u8; 12292],
-    clears: &mut [u8; 964],
-    status: &mut [u8; 4096],
+    discards: &mut [u8; DISCARD_BYTES],
+    actions: &mut [u8; ACTION_BYTES],
+    clears: &mut [u8; CLEAR_BYTES],
+    status: &mut [u8; STATUS_BYTES],
 ) -> Place {
     let count = pass_count(session);
     let mut q = p;
@@ -112,16 +117,16 @@ fn passes(
 
 // The next words are the answer to a session.
 fn answer(list: &[u8], p: Place, session: &[u8]) -> Place {
-    let mut rows = [0u8; 3600];
+    let mut rows = [0u8; ROWS_BYTES];
     let number = deskcheck_session(session, &mut rows);
     let q = word(list, p, number);
     if number != 0 {
         return q;
     }
-    let mut discards = [0u8; 772];
-    let mut actions = [0u8; 12292];
-    let mut clears = [0u8; 964];
-    let mut status = [0u8; 4096];
+    let mut discards = [0u8; DISCARD_BYTES];
+    let mut actions = [0u8; ACTION_BYTES];
+    let mut clears = [0u8; CLEAR_BYTES];
+    let mut status = [0u8; STATUS_BYTES];
     passes(
         list,
         q,
@@ -202,6 +207,7 @@ fn room() -> [u8; 600000]
     [0; 600000]
 }
 
+// Reads the list from standard input, and prints how many sessions agree.
 fn main() {
     let mut space = room();
     let n = io::read_full(STDIN_FILENO, &mut space);

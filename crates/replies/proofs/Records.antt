@@ -15,7 +15,6 @@ use Rattle.laws.proofs.Lists.{map-append}
 use Rattle.laws.proofs.Folds.{parts-turn}
 use Rattle.attachments.specs.declared.DepthStencilPart.{DepthStencilPart}
 use Rattle.attachments.specs.Attached.{PartOf, none, one}
-use Rattle.replies.specs.declared.Attachments.{Attachments}
 use Rattle.replies.specs.Records.{padded, listed}
 
 -- The records and the count hold the list xs.

@@ -6,14 +6,14 @@ use mathlib.Core.List.{List, [], _∷_, _++_, append-assoc, append-nil}
 use lib.Dec.{leb}
 use lib.ListN.{length}
 use Rattle.definition.specs.Sizes.{maxDiscards, maxActions}
-use Rattle.definition.specs.Session.{Pass, Session, isNone}
+use Rattle.definition.specs.Session.{Pass, Session}
 use Rattle.definition.specs.Verdict.{nowhere, _then_, unless}
 use Rattle.definition.specs.MemoryInit.{Lists, applyPlan}
 use Rattle.definition.specs.Attachments.{Attached, attachAll, depthStencilPart, slotPart, slotParts, attachments}
 use Rattle.definition.specs.Pass.{discardsFit, roomVerdict}
 use Rattle.definition.specs.declared.Slot.{Slot}
 use Rattle.definition.specs.declared.Verdict.{Verdict}
-use Rattle.laws.proofs.Folds.{parts-none, parts-turn}
+use Rattle.laws.proofs.Folds.{parts-turn}
 use Rattle.lists.proofs.Records.{records-length}
 use Rattle.records.specs.Lent.{decodeAction, surfaces, actions}
 use Rattle.memory_init.specs.Lent.{initKind}

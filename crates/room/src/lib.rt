@@ -5,6 +5,7 @@ use attachments::Planned;
 use attachments::color_planned;
 use attachments::resolve_planned;
 use course::Course;
+use course::MAX_ACTIONS;
 use course::begin;
 use course::follow;
 use definition::Slot;
@@ -27,9 +28,6 @@ ghost use Rattle.definition.specs.Pass.{newPass, roomVerdict};
 ghost use Rattle.memory_init.specs.Lent.{held};
 ghost use Rattle.attachments.specs.Attached.{PlannedAs, PartOf};
 ghost use Rattle.room.specs.Going.{Goes};
-
-// The room of the list of actions.
-const MAX_ACTIONS: usize = 512;
 
 // An attachment after the course so far.
 fn follow_planned(copy: &mut [u32], course: Course, a: Planned) -> Course

@@ -19,9 +19,10 @@ ghost use Rattle.lent.specs.Numbers.{numbersAt, putNumbers};
 ghost use Rattle.recording.specs.Recorded.{Lent};
 ghost use Rattle.rows.specs.Rows.{rowNumbers, rowBytes, rowsIn, rowOf, Next, Judged};
 
-// Numbers and bytes of a row.
+// Numbers of a row.
 pub const ROW_NUMBERS: usize = 9;
 
+// Bytes of a row.
 pub const ROW_BYTES: usize = 4 * ROW_NUMBERS;
 
 // Bytes that the rows of every session fit in.

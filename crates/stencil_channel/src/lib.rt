@@ -153,18 +153,21 @@ fn with_answer(answer: Answer, x: u32) -> StencilAnswer
 }
 
 impl StencilChannel {
+    // The load that is asked for.
     pub fn load(self) -> StencilLoadField
         ensures { λ r. ⌜ askedField (self .given) (fieldIn r) ≡ channelIn self .load ⌝ }
     {
         self.load
     }
 
+    // The store that is asked for.
     pub fn store(self) -> StoreField
         ensures { λ r. ⌜ storeIn r ≡ channelIn self .store ⌝ }
     {
         self.store
     }
 
+    // Whether the channel is only read.
     pub fn is_readonly(self) -> bool
         ensures { λ r. ⌜ r ≡ channelIn self .readOnly ⌝ }
     {
@@ -223,6 +226,7 @@ pub fn stencil_resolved(has: bool, strict: bool, c: Channel) -> StencilAnswer
 }
 
 impl StencilAnswer {
+    // Fine for a channel, else its refusal.
     pub fn verdict(self) -> Verdict
         ensures { λ r. ⌜ r ≡ Ch.resolvedVerdict (answerIn self) ⌝ }
     {
@@ -271,6 +275,7 @@ impl ResolvedStencil {
         self.operations().hal_ops()
     }
 
+    // Whether the channel is only read.
     pub fn is_readonly(self) -> bool
         ensures { λ r. ⌜ r ≡ opsIn self .readOnly ⌝ }
     {

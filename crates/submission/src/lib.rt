@@ -3,7 +3,6 @@
 use definition::MemoryInitKind;
 use definition::Range;
 use definition::Surface;
-use definition::Texture;
 use memory_init::Counts;
 use records::first_of;
 use records::kind_at;
@@ -15,8 +14,8 @@ use session::texture_count;
 use surfaces::surfaces_in;
 ghost use mathlib.Core.Path.{_≡_};
 ghost use Prim.Native.Nat.{ℕ, _+_, _*_, _≤_, _<_};
-ghost use lib.ListN.{length, set, getD};
-ghost use Rattle.definition.specs.Sizes.{maxTextures, maxSurfaces};
+ghost use lib.ListN.{length};
+ghost use Rattle.definition.specs.Sizes.{maxSurfaces};
 ghost use Rattle.definition.specs.Session.{session, surfaceCount, surfaceIndex, surfacesOf};
 ghost use Rattle.definition.specs.Status as Status;
 ghost use Rattle.definition.specs.Submission.{submitBytes};

@@ -14,8 +14,10 @@ ghost use Rattle.text.specs.Text as T;
 // The most bytes of a row's line.
 pub const LINE_BYTES: usize = 99;
 
+// What stands between two numbers.
 const SPACE: u8 = b' ';
 
+// What ends a line.
 const NEWLINE: u8 = b'\n';
 
 // A byte.

@@ -23,6 +23,7 @@ pub fn fine() -> Verdict
     }
 }
 
+// Whether nothing is refused.
 pub fn is_fine(v: Verdict) -> bool
     ensures { λ r. ⌜ r ≡ D.isFine v ⌝ }
 {

@@ -5,7 +5,6 @@ use Prim.Native.Nat.{ℕ, _+_, _*_, _≤_}
 use native.Mathlib.Omega.{arith}
 use lib.ListN.{length, getD, List·getD-eq-default}
 use Rattle.definition.specs.Bytes.{u32At}
-use Rattle.wire.specs.declared.Eight.{Eight}
 use Rattle.wire.specs.Reading.{eightAt}
 
 -- The four places are given by equations, so that whoever cites the law need not write them as the definition does.

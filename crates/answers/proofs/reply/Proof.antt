@@ -1,7 +1,7 @@
 -- By whether the pass is withheld; if not, one part after the other.
 use mathlib.Core.Path.{sym, _∙_}
 use borrow.Author.Needs.{needs}
-use Rattle.laws.proofs.Tests.{cond-on, cond-off}
+use Rattle.laws.proofs.Tests.{cond-on}
 use Rattle.answers.specs.Words.{nextReply}
 use Rattle.answers.proofs.reply.Statement.{statement}
 use Rattle.answers.proofs.reply.Tie as tie

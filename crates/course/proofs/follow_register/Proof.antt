@@ -1,5 +1,5 @@
 -- A registration, or nothing.
-use mathlib.Core.Path.{sym, ap, subst}
+use mathlib.Core.Path.{sym, subst}
 use Rattle.definition.specs.MemoryInit.{registered}
 use Rattle.memory_init.specs.Lent.{initKind}
 use Rattle.course.specs.Course.{Tracks}

@@ -23,14 +23,12 @@ loop-again : tie.Need-loop-again Inv-loop μ-loop
 unfolding colorOps
 loop-again c =
     let c4 = c .before .before .before .before in
-    let c4 = c4 in
     let c5 = c4 .before in
     (rw add-one (simp (c .then .ensures, c .before .slot-ops .ensures, c .before .before .slot .ensures, c5 .fine .ensures, c4 .loop .inv .0)), omega arith)
 
 returns : tie.Need-returns Inv-loop μ-loop
 returns c =
     let c4 = c .before .before .before .before in
-    let c4 = c4 in
     let e : c .before .loop .k ≡ c4 .args .n = omega arith in
     simp (sym e, c .before .loop .inv .0)
 

@@ -13,7 +13,6 @@ returns-2 : tie.Need-returns-2
 unfolding depthStencilOps
 returns-2 c =
     let c4 = c .before .before .before .before in
-    let c4 = c4 in
     let c5 = c4 .before in
     let c6 = c5 .before in
     let c7 = c6 .before in

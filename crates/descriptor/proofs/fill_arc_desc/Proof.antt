@@ -14,7 +14,6 @@ returns-2 : tie.Need-returns-2
 unfolding opsVerdict _then_ unless
 returns-2 c =
     let c4 = c .before .before .before .before in
-    let c4 = c4 in
     let c5 = c4 .before in
     simp (c .then .ensures, c .before .depth-stencil-ops .ensures, c .before .before .color-ops .ensures, c4 .max-colors .ensures, c5 .colors .ensures, simp (c5 .colors .ensures, c4 .max-colors .ensures) at (le-leb _ _ (c .before .before .before .if1 .left)))
 

@@ -4,8 +4,6 @@ use native.Mathlib.Omega.{arith}
 use borrow.Author.Needs.{needs}
 use Rattle.deskcheck.proofs.read_rest.Statement.{statement}
 use Rattle.deskcheck.proofs.read_rest.Tie as tie
-use Rattle.deskcheck.proofs.read_rest.Reads as reads
-use Rattle.deskcheck.proofs.read_rest.Lts as lts
 
 abbrev Inv-loop : tie.InvT-loop
 Inv-loop space₀ held bytes₀ space bytes = Unit {0}

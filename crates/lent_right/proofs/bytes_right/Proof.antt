@@ -1,7 +1,7 @@
 -- The test so far and the test of the bytes that are left.
-use mathlib.Core.Path.{_≡_, refl, sym, ap, ap₂, _∙_}
+use mathlib.Core.Path.{_≡_}
 use native.Mathlib.Omega.{arith}
-use Prim.Native.Nat.{ℕ, _-_, _+_, _*_, _≤_, zero-le}
+use Prim.Native.Nat.{_-_, _≤_, zero-le}
 use mathlib.Core.Bool.{_&&_}
 use lib.ListN.{drop}
 use Rattle.definition.specs.Calls.{bytesRight}

@@ -1,6 +1,5 @@
 -- In a session that is not refused nothing is cut off.
-use mathlib.Core.Path.{_≡_, refl, sym, ap, _∙_}
-use Prim.Native.Nat.{ℕ}
+use mathlib.Core.Path.{ap, _∙_}
 use Rattle.definition.specs.Session.{session}
 use Rattle.surfaces.specs.Surfaces.{surfacesUpTo}
 use Rattle.surfaces.proofs.Surfaces.{up-to-is}

@@ -1,6 +1,4 @@
 -- Each list lies in its buffer, and what is unpacked is what the bytes hold.
-use Prim.Native.Nat.{_≤_}
-use native.Mathlib.Omega.{arith}
 use native.Mathlib.Nat.{le-refl}
 use borrow.Author.Needs.{needs}
 use Rattle.readable.proofs.Valid.{valid-of}

@@ -4,7 +4,7 @@ use borrow.Author.Tests.{not-true, not-false}
 use native.Mathlib.Omega.{arith}
 use Rattle.definition.specs.MemoryInit.{registered, discarded}
 use Rattle.memory_init.specs.Lent.{held, initKind}
-use Rattle.memory_init.proofs.Registration.{room-of, leaves-of, plan-room, discard-room, discard-leaves}
+use Rattle.memory_init.proofs.Registration.{leaves-of, plan-room, discard-room, discard-leaves}
 use borrow.Author.Needs.{needs}
 use Rattle.memory_init.proofs.add_pass_texture_init_actions.Statement.{statement}
 use Rattle.memory_init.proofs.add_pass_texture_init_actions.Tie as tie

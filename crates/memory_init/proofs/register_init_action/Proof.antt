@@ -1,6 +1,5 @@
 -- By the kind, what the call of its arm leaves.
 use mathlib.Core.Path.{ap}
-use native.Mathlib.Omega.{arith}
 use Rattle.definition.specs.MemoryInit.{registerInitAction}
 use Rattle.memory_init.specs.Lent.{held}
 use Rattle.memory_init.proofs.Registration.{implicit-room, room-of, leaves-of}

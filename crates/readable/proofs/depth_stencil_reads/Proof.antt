@@ -8,7 +8,6 @@ returns : tie.Need-returns
 unfolding depthStencilReads
 returns c =
     let c4 = c .before .before .before .before in
-    let c4 = c4 in
     let c5 = c4 .before in
     let c6 = c5 .before in
     simp (c .channel-reads2 .ensures, c .before .stencil .ensures, c .before .before .channel-reads .ensures, c .before .before .before .depth .ensures, c4 .view-count .ensures, c5 .is-none .ensures, c6 .depth-stencil .ensures)

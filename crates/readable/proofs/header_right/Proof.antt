@@ -9,7 +9,6 @@ returns : tie.Need-returns
 unfolding session headerRight
 returns c =
     let c4 = c .before .before .before .before in
-    let c4 = c4 in
     let c5 = c4 .before in
     let c6 = c5 .before in
     let c7 = c6 .before in

@@ -13,7 +13,6 @@ returns-2 : tie.Need-returns-2
 unfolding passReads
 returns-2 c =
     let c4 = c .before .before .before .before in
-    let c4 = c4 in
     simp (c .slots-read .ensures, c .before .depth-stencil-reads .ensures, c .before .before .ends .ensures, c4 .colors .ensures, simp (c4 .colors .ensures) at (le-leb _ _ (c .before .before .before .if1 .left)))
 
 pub pass-reads-spec : {M : Type 1} → statement M

@@ -15,14 +15,12 @@ returns-2 : tie.Need-returns-2
 unfolding refusalOf
 returns-2 c =
     let c5 = c .before .before .before .before .before in
-    let c5 = c5 in
     refused-by (now (c5 .args .s)) (sym (not-false _ (c .before .before .if1 .left)) ∙ c .before .before .before .length-right .ensures) (sym (not-true _ (c .if2 .taken)) ∙ c .before .header-right .ensures) refl refl
 
 returns-3 : tie.Need-returns-3
 unfolding refusalOf
 returns-3 c =
     let c4 = c .before .before .before .before in
-    let c4 = c4 in
     let c5 = c4 .before in
     let c7 = c5 .before .before in
     refused-by (now (c7 .args .s)) (sym (not-false _ (c4 .if1 .left)) ∙ c5 .length-right .ensures) (sym (not-false _ (c .before .before .if2 .left)) ∙ c .before .before .before .header-right .ensures) (sym (not-true _ (c .if3 .taken)) ∙ c .before .textures-right .ensures) refl
@@ -31,7 +29,6 @@ returns-4 : tie.Need-returns-4
 unfolding refusalOf
 returns-4 c =
     let c4 = c .before .before .before .before in
-    let c4 = c4 in
     let c5 = c4 .before in
     let c6 = c5 .before in
     let c7 = c6 .before in
@@ -43,7 +40,6 @@ returns-5 : tie.Need-returns-5
 unfolding refusalOf
 returns-5 c =
     let c4 = c .before .before .before .before in
-    let c4 = c4 in
     let c5 = c4 .before in
     let c6 = c5 .before in
     let c7 = c6 .before in

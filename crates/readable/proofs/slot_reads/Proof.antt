@@ -8,7 +8,6 @@ returns : tie.Need-returns
 unfolding slotReads
 returns c =
     let c5 = c .before .before .before .before .before in
-    let c5 = c5 in
     let c6 = c5 .before in
     simp (c .before .before .resolve-reads .ensures, c5 .view-count .ensures, c6 .is-none .ensures)
 

@@ -8,7 +8,6 @@ returns : tie.Need-returns
 unfolding textureRight
 returns c =
     let c4 = c .before .before .before .before in
-    let c4 = c4 in
     let c5 = c4 .before in
     let c8 = c5 .before .before .before in
     let c9 = c8 .before in

@@ -1,8 +1,7 @@
 -- The invariant: the first k passes are judged, and the rows and lists keep their length.
-use borrow.Author.Needs.{needs}
 use mathlib.Core.Path.{_≡_, refl, _∙_}
 use native.Mathlib.Omega.{arith}
-use Prim.Native.Nat.{ℕ, _+_, _*_, _-_, _≤_}
+use Prim.Native.Nat.{_-_, _≤_}
 use lib.ListN.{length}
 use Rattle.definition.specs.Session.{session}
 use Rattle.rows.proofs.Rows.{Walked, walked-none, walked-pass, walked-all}

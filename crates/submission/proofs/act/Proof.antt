@@ -1,7 +1,6 @@
 -- The rows of the range are its surfaces.
-use mathlib.Core.Path.{_≡_, refl, sym, ap, _∙_}
+use mathlib.Core.Path.{_≡_, sym, ap, _∙_}
 use mathlib.Core.Path.{subst}
-use Prim.Native.Nat.{ℕ}
 use Rattle.definition.specs.Session.{session, arrayLayers, surfaceIndex}
 use Rattle.definition.specs.Surfaces.{firstOf}
 use Rattle.definition.specs.Status.{actByte}

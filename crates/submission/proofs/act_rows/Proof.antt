@@ -1,8 +1,8 @@
 -- The rows so far, and the place of the next.
 use native.Mathlib.Omega.{arith}
 use mathlib.Core.Path.{_≡_, refl, sym, ap, _∙_}
-use Prim.Native.Nat.{ℕ, _+_, _*_, _-_, _≤_, _<_, zero-le}
-use lib.ListN.{length, length-set}
+use Prim.Native.Nat.{ℕ, _+_, _*_, _-_, _≤_, zero-le}
+use lib.ListN.{length}
 use Rattle.definition.specs.Status.{actByte}
 use Rattle.submission.specs.Runs.{run, rows}
 use Rattle.submission.proofs.Runs.{rows-none, rows-turn, row-none, row-next}

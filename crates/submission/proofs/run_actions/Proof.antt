@@ -1,10 +1,10 @@
 -- The bytes so far are swept by the actions so far.
 use native.Mathlib.Omega.{arith}
 use mathlib.Core.Path.{_≡_, refl, sym, ap, _∙_}
-use Prim.Native.Nat.{ℕ, _+_, _*_, _-_, _≤_, _<_, zero-le}
-use lib.ListN.{length, length-set}
+use Prim.Native.Nat.{ℕ, _-_, _≤_, zero-le}
+use lib.ListN.{length}
 use mathlib.Core.Path.{subst}
-use Rattle.definition.specs.Session.{session, surfacesOf, surfaceCount}
+use Rattle.definition.specs.Session.{session, surfacesOf}
 use Rattle.laws.specs.Surfaces.{RangeInside}
 use Rattle.laws.specs.Submission.{sweepActs}
 use Rattle.laws.proofs.Surfaces.{range-inside}

@@ -2,10 +2,10 @@
 use borrow.Author.Needs.{needs}
 use native.Mathlib.Omega.{arith}
 use mathlib.Core.Path.{_≡_, refl, sym, ap, _∙_}
-use Prim.Native.Nat.{ℕ, _+_, _*_, _-_, _≤_, _<_, zero-le}
+use Prim.Native.Nat.{ℕ, _-_, _≤_, _<_, zero-le}
 use lib.ListN.{length, length-set}
 use mathlib.Core.Path.{subst}
-use Rattle.definition.specs.Session.{session, surfacesOf, surfaceCount, surfaceIndex}
+use Rattle.definition.specs.Session.{session, surfacesOf}
 use Rattle.laws.specs.Surfaces.{Inside}
 use Rattle.laws.specs.Submission.{sweep, emptyAt}
 use Rattle.laws.proofs.Surfaces.{surface-inside}

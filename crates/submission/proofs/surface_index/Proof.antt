@@ -1,9 +1,9 @@
 -- The parts of the place, each what its call promises.
 use native.Mathlib.Omega.{arith}
-use mathlib.Core.Path.{_≡_, refl, sym, ap, _∙_}
+use mathlib.Core.Path.{_≡_, refl, ap, _∙_}
 use Prim.Native.Nat.{ℕ, _+_, _*_, _<_}
 use lib.ListN.{getD}
-use Rattle.definition.specs.Session.{session, arrayLayers, surfacesBefore, surfaceCount, surfaceIndex}
+use Rattle.definition.specs.Session.{session, arrayLayers, surfacesBefore, surfaceCount}
 use Rattle.submission.proofs.Bases.{index-of, index-fits}
 use borrow.Author.Needs.{needs}
 use Rattle.submission.proofs.surface_index.Statement.{statement}

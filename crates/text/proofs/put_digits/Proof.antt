@@ -9,8 +9,6 @@ use Rattle.text.specs.Text.{digits}
 use Rattle.text.proofs.Text.{digit-more}
 use Rattle.text.proofs.put_digits.Statement.{statement}
 use Rattle.text.proofs.put_digits.Tie as tie
-use Rattle.text.proofs.put_digits.Reads as reads
-use Rattle.text.proofs.put_digits.Lts as lts
 
 abbrev Inv-loop : tie.InvT-loop
 Inv-loop out₀ at n k p₀ left₀ out p left = (take p out ++ digits left n ≡ take at out₀ ++ digits k n) × (p + left ≡ at + k) × (length out ≡ length out₀)

@@ -16,7 +16,6 @@ returns-2 c = let a = c .before .before .before .args in put-nowhere (a .k) (now
 returns-3 : tie.Need-returns-3
 returns-3 c =
     let c7 = c .before .before .before .before .before .before .before in
-    let c7 = c7 in
     let a = c7 .args in c .before .before .put-bytes .ensures ∙ put-inside (a .k) (now (a .s)) (a .at) (a .n) (omega arith)
 
 pub put-number-spec : {M : Type 1} → statement M

@@ -10,7 +10,6 @@ use Rattle.wire.proofs.u32_across_end.Tie as tie
 returns : tie.Need-returns
 returns c =
     let c5 = c .before .before .before .before .before in
-    let c5 = c5 in
     let a = c5 .args in
     four (now (a .s)) (a .at) (a .at + 0) (a .at + 1) (a .at + 2) (a .at + 3) _ _ _ _ (c .before .before .before .byte .ensures .0) (c .before .before .byte2 .ensures .0) (c .before .byte3 .ensures .0) (c .byte4 .ensures .0) (omega arith) (omega arith) (omega arith) (omega arith)
 

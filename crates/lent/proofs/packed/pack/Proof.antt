@@ -1,9 +1,9 @@
 -- The count is written before the records, and stays when they are.
-use mathlib.Core.Path.{_≡_, refl, sym, ap, _∙_}
-use Prim.Native.Nat.{ℕ, _+_, _*_, _≤_, _<_}
+use mathlib.Core.Path.{sym, ap, _∙_}
+use Prim.Native.Nat.{_+_, _*_}
 use native.Mathlib.Omega.{arith}
 use borrow.Author.Needs.{needs}
-use lib.ListN.{length, drop}
+use lib.ListN.{drop}
 use Rattle.definition.specs.Bytes.{u32At}
 use Rattle.lent.proofs.Numbers.{number-kept, number-past, numbers-past}
 use Rattle.wire.proofs.Writing.{put-read}

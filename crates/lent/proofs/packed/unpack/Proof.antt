@@ -1,10 +1,8 @@
 -- A count within the room gives no more numbers than the room has, so that they lie inside.
-use mathlib.Core.Path.{_≡_, refl, sym, ap, _∙_}
-use Prim.Native.Nat.{ℕ, _+_, _*_, _≤_, _<_}
+use Prim.Native.Nat.{_*_, _≤_}
 use native.Mathlib.Omega.{arith}
 use native.Mathlib.Nat.{mul-le-mul-left}
 use borrow.Author.Needs.{needs}
-use lib.ListN.{length}
 use Rattle.lent.proofs.packed.unpack.Statement.{statement}
 use Rattle.lent.proofs.packed.unpack.Tie as tie
 
