@@ -50,11 +50,16 @@ impl Lists {
         }
     }
 
-    /// Empties the lists and the status, without a new allocation.
-    pub fn clear(&mut self) {
+    /// Empties the lists; the status stays.
+    pub fn empty(&mut self) {
         for list in [&mut self.discards, &mut self.actions, &mut self.clears] {
             list[..COUNT_LEN].fill(0);
         }
+    }
+
+    /// Empties the lists and the status, without a new allocation.
+    pub fn clear(&mut self) {
+        self.empty();
         self.status.fill(0);
     }
 

@@ -75,7 +75,7 @@ fn rust_session(bytes: &[u8]) {
     let mut run = Run::new(&session);
     for (number, pass) in session.passes.iter().enumerate() {
         if reader::pass_fits(&session, pass) {
-            let _ = black_box(run.judge_only(pass));
+            let _ = black_box(&run.judge_only(pass));
         }
         if reader::ends_buffer(&session, number) {
             black_box(run.submit_only());
@@ -165,21 +165,13 @@ fn passes_of(session: &Session) -> Pair {
         || {
             lists.clear();
             for _ in 0..PASSES {
-                let lent = lists.lend();
-                black_box(desk::pass(
-                    black_box(&file),
-                    0,
-                    lent.discards,
-                    lent.actions,
-                    lent.clears,
-                    lent.status,
-                ));
+                black_box(&desk::check_pass(black_box(&file), 0, &mut lists));
             }
         },
         || {
             run.put_back(&empty);
             for _ in 0..PASSES {
-                let _ = black_box(run.judge_only(black_box(&first)));
+                let _ = black_box(&run.judge_only(black_box(&first)));
             }
         },
     )
@@ -200,6 +192,28 @@ fn kinds() -> impl Iterator<Item = (&'static str, Session)> {
 /// Single passes of each kind.
 pub fn single_passes() -> impl Iterator<Item = (String, Pair)> {
     kinds().map(|(name, session)| (name.to_string(), passes_of(&session)))
+}
+
+/// The cost of the session's first pass from the file's bytes: the session is read and the pass judged on empty lists.
+fn first_of(session: &Session) -> Pair {
+    let file = session.to_bytes();
+    let mut lists = Lists::fresh();
+    pair(
+        1,
+        || {
+            lists.empty();
+            black_box(&desk::check_pass(black_box(&file), 0, &mut lists));
+        },
+        || {
+            let session = reader::read(black_box(&file)).expect("a readable session");
+            let _ = black_box(&Run::new(&session).judge_only(&session.passes[0]));
+        },
+    )
+}
+
+/// First passes of each kind.
+pub fn first_passes() -> impl Iterator<Item = (String, Pair)> {
+    kinds().map(|(name, session)| (name.to_string(), first_of(&session)))
 }
 
 /// Passes of a session that is read once: a hundred of the same, each ending its buffer, without the time of reading.
@@ -250,13 +264,13 @@ fn by_discards() -> Vec<(u32, Pair)> {
         let ours = || {
             lists.actions[..4].fill(0);
             for pass in (0..PAIRS).flat_map(|_| two) {
-                black_box(desk::check_pass(black_box(&file), pass, &mut lists));
+                black_box(&desk::check_pass(black_box(&file), pass, &mut lists));
             }
         };
         let rust = || {
             run.put_back(&kept);
             for pass in (0..PAIRS).flat_map(|_| two) {
-                let _ = black_box(run.judge_only(&session.passes[pass as usize]));
+                let _ = black_box(&run.judge_only(&session.passes[pass as usize]));
             }
         };
         (count, pair(2 * PAIRS, ours, rust))

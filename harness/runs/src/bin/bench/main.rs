@@ -13,7 +13,7 @@ use std::process::ExitCode;
 use checks::words::{only, text};
 use runs::{arguments, end};
 
-use cases::{growths, judged_passes, reading, single_passes, whole_sessions, Growth};
+use cases::{first_passes, growths, judged_passes, reading, single_passes, whole_sessions, Growth};
 use timing::Pair;
 
 /// What the numbers are measured on and of.
@@ -87,6 +87,8 @@ fn run(arguments: &[String]) -> Result<(), String> {
     whole_sessions().for_each(|(name, pair)| print_row(&name, pair));
     print_head("A pass of a session that is read once (ours) or held (Rust)");
     judged_passes().for_each(|(name, pair)| print_row(&name, pair));
+    print_head("One pass from the file's bytes: the session read, the pass judged on empty lists");
+    first_passes().for_each(|(name, pair)| print_row(&name, pair));
     print_head("Single calls: session and lent lists tested again each time (ours) or held (Rust)");
     single_passes().for_each(|(name, pair)| print_row(&name, pair));
     print_head("Reading only: the session's refusal");

@@ -1,0 +1,137 @@
+//! The slice of records against the flat list of the pass check, both proved, on many lists: each
+//! pass of a random session discards, keeps or loads the surfaces of one view, and the same is done
+//! to a slice of records.
+
+use discards::{discard, retain, TextureInitRange, TextureSurfaceDiscard};
+use sessions::layout::*;
+use sessions::random::Prng;
+use sessions::rows::{EMPTY_PASS, EMPTY_SLOT, PLAIN_TEXTURE, PLAIN_VIEW};
+use sessions::{Pass, Session, Slot, Texture, View};
+
+const SESSIONS: u32 = 300;
+const TEXTURES: u32 = 3;
+const MIPS: u32 = 3;
+const LAYERS: u32 = 4;
+const VIEWS: u32 = 40;
+
+/// The number of a pass that needs a 65th discard.
+const NO_ROOM: u32 = 49;
+
+/// A view of one mip and one layer or several.
+fn view(prng: &mut Prng) -> View {
+    let base_layer = prng.below(LAYERS);
+    let layer_count = 1 + prng.below(LAYERS - base_layer);
+    View {
+        texture: prng.below(TEXTURES),
+        dimension: D2_ARRAY,
+        base_mip: prng.below(MIPS),
+        base_layer,
+        layer_count,
+        ..PLAIN_VIEW
+    }
+}
+
+/// A pass of one view that mostly discards, so that the lists fill.
+fn pass(prng: &mut Prng) -> Pass {
+    let mut pass = EMPTY_PASS;
+    pass.colours = 1;
+    pass.slots[0] = Slot {
+        view: prng.below(VIEWS),
+        load: if prng.chance(10) { LOAD } else { CLEAR },
+        store: if prng.chance(5) { STORE } else { DISCARD },
+        ..EMPTY_SLOT
+    };
+    pass
+}
+
+fn session(prng: &mut Prng) -> Session {
+    let texture = Texture {
+        depth_or_layers: LAYERS,
+        mips: MIPS,
+        ..PLAIN_TEXTURE
+    };
+    Session {
+        max_views: LAYERS,
+        flags: MULTIVIEW,
+        textures: vec![texture; TEXTURES as usize],
+        views: (0..VIEWS).map(|_| view(prng)).collect(),
+        passes: (0..MAX_PASSES).map(|_| pass(prng)).collect(),
+        ..Session::new()
+    }
+}
+
+/// The slice's part in a pass: what is loaded or kept is listed no more, then a discard is listed.
+fn step(records: &mut [TextureSurfaceDiscard], n: usize, view: &View, slot: &Slot) -> usize {
+    let range = TextureInitRange {
+        texture: view.texture,
+        mip: view.base_mip,
+        mips: view.mip_count,
+        layer: view.base_layer,
+        layers: view.layer_count,
+    };
+    let first = TextureSurfaceDiscard {
+        texture: view.texture,
+        mip: view.base_mip,
+        layer: view.base_layer,
+    };
+    let kept = if slot.load == LOAD || slot.store == STORE {
+        retain(records, n, range)
+    } else {
+        n
+    };
+    if slot.store == DISCARD {
+        discard(records, kept, first)
+    } else {
+        kept
+    }
+}
+
+/// The flat list's discards, as records.
+fn flat(lists: &desk::Lists) -> Vec<TextureSurfaceDiscard> {
+    let record = |s: sessions::reply::Surface| TextureSurfaceDiscard {
+        texture: s.texture,
+        mip: s.mip,
+        layer: s.layer,
+    };
+    lists.discards().into_iter().map(record).collect()
+}
+
+#[test]
+fn slices_and_flat_lists_do_not_differ() {
+    let none = TextureSurfaceDiscard {
+        texture: 0,
+        mip: 0,
+        layer: 0,
+    };
+    let mut prng = Prng::new(10_011);
+    let (mut listed, mut removed, mut full) = (0, 0, 0);
+    for _ in 0..SESSIONS {
+        let session = session(&mut prng);
+        let file = session.to_bytes();
+        let mut lists = desk::Lists::fresh();
+        let mut records = [none; DISCARDS];
+        let mut n = 0;
+        for (number, pass) in session.passes.iter().enumerate() {
+            let slot = &pass.slots[0];
+            let view = &session.views[slot.view as usize];
+            let reply = desk::check_pass(&file, number as u32, &mut lists);
+            if reply.number == NO_ROOM {
+                full += 1;
+                let mut tried = records;
+                assert_eq!(step(&mut tried, n, view, slot), n, "no room in the slice");
+                assert_eq!(tried, records);
+            } else {
+                assert_eq!(reply.number, 0, "pass {number} of {session:?}");
+                let after = step(&mut records, n, view, slot);
+                listed += u32::from(after > n);
+                removed += u32::from(after < n);
+                n = after;
+            }
+            assert_eq!(flat(&lists), records[..n], "after pass {number}");
+        }
+    }
+    assert!(
+        listed > 1_000 && removed > 1_000 && full > 1_000,
+        "{listed} {removed} {full}"
+    );
+}
