@@ -10,12 +10,7 @@ use borrow.Author.Tests.{ltb-true, ltb-false}
 use lib.Arith.{mod-mul}
 use lib.Dec.{ltb}
 use lib.ListN.{getD}
-use Rattle.text.specs.Text.{places, digits, decimal}
-
--- The number of a list of digits, behind those that make v.
-abbrev pub reads : ℕ → List ℕ → ℕ
-reads v [] = v
-reads v (d ∷ rest) = reads (v * 10 + (d - 48)) rest
+use Rattle.text.specs.Text.{places, digits, decimal, reads, Says}
 
 -- ── k digits read as the number's last k
 
@@ -65,9 +60,9 @@ counted (suc f) k n h = go (counted f (k + 1) (n / 10)) (ltb n 10) refl
           above = λ z. rw (pow-suc 10 (c .more)) (omega (arith, above));
         }
 
--- ── so a u32 is right
+-- ── so the text of a u32 says it
 
-pub read-back : (n : ℕ) → n < 10000000000 → reads 0 (decimal n) ≡ n
+read-back : (n : ℕ) → n < 10000000000 → reads 0 (decimal n) ≡ n
 unfolding decimal
 read-back n h =
     let c = counted 9 1 n h in
@@ -75,7 +70,7 @@ read-back n h =
     let whole : n % 10 ^ suc (c .more) ≡ n = mod-eq-of-lt (c .below) in
     ap (λ k. reads 0 (digits k n)) e ∙ digits-read (suc (c .more)) n 0 ∙ omega (arith, whole)
 
-pub no-leading-zero : (n : ℕ) → 0 < n → n < 10000000000 → getD (decimal n) 0 0 ≢ 48
+no-leading-zero : (n : ℕ) → 0 < n → n < 10000000000 → getD (decimal n) 0 0 ≢ 48
 unfolding decimal digits
 no-leading-zero n l h z =
     let c = counted 9 1 n h in
@@ -84,3 +79,6 @@ no-leading-zero n l h z =
     let low : 1 ≤ n / 10 ^ c .more = le-div-iff-mul-le (ten-pos (c .more)) .1 (omega (arith, c .above l)) in
     let high : n / 10 ^ c .more < 10 = div-lt-iff-lt-mul (ten-pos (c .more)) .1 (rw (pow-succ' 10 (c .more)) at (c .below)) in
     omega arith
+
+pub decimal-says : (n : ℕ) → n < 10000000000 → Says n (decimal n)
+decimal-says n h = record { number = read-back n h; no-leading-zero = λ l. no-leading-zero n l h }

@@ -72,10 +72,11 @@ fn put_digits(out: &mut [u8], at: usize, n: u32, k: usize) -> usize
     p
 }
 
-// A number.
+// A number, as a text that says it.
 pub fn put_decimal(out: &mut [u8], at: usize, n: u32) -> usize
     requires { ⌜ at + 10 ≤ length (now out) ⌝ }
     ensures { λ r. ⌜ (take r (now (out .exit)) ≡ take at (now (out .entry)) ++ T.decimal n) × (r ≤ at + 10) ⌝ }
+    ensures { λ _. ⌜ T.Says n (T.decimal n) ⌝ }
 {
     put_digits(out, at, n, places(n))
 }

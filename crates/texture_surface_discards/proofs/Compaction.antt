@@ -13,6 +13,7 @@ use Rattle.records.specs.Lent.{decodeSurface, surfaceIn}
 use Rattle.texture_surface_discards.specs.Slices.{numbers, rangeOf, Kept}
 use Rattle.texture_surface_discards.specs.declared.TextureInitRange.{TextureInitRange}
 use Rattle.texture_surface_discards.proofs.Slices.{none, numbers-at, slice-written}
+use Rattle.texture_surface_discards.proofs.Contents.{retained-records}
 
 -- The test of what stays.
 abbrev pub outside : TextureInitRange → Surface → Bool
@@ -58,9 +59,10 @@ module _ (a : TextureInitRange) (n : ℕ) (l : List Surface) (enough : n ≤ len
 
 module _ (a : TextureInitRange) (n : ℕ) (l : List Surface) where
   -- All are read: what stays is retained.
-  pub retained : (l′ : List Surface) (k i : ℕ) → n ≤ length l → Compacting 3 decodeSurface (outside a) n (numbers l) (numbers l′) k i → n ≤ i → Kept n (rangeOf a) l l′ k
-  retained l′ k i enough g over = record { retained = λ _. compact-done g over; refused = λ past. absurd (omega (arith, enough, past)) }
+  pub retained : (l′ : List Surface) (k i : ℕ) → length l′ ≡ length l → n ≤ length l → Compacting 3 decodeSurface (outside a) n (numbers l) (numbers l′) k i → n ≤ i → Kept n (rangeOf a) l l′ k
+  retained l′ k i long enough g over =
+      record { retained = λ _. compact-done g over; records = λ _. retained-records n k (rangeOf a) l l′ long enough (compact-done g over); refused = λ past. absurd (omega (arith, enough, past)) }
 
   -- n is past the end: it is handed back and the slice stays.
   pub past-end : length l < n → Kept n (rangeOf a) l l n
-  past-end past = record { retained = λ enough. absurd (omega (arith, past, enough)); refused = λ _. (refl, refl) }
+  past-end past = record { retained = λ enough. absurd (omega (arith, past, enough)); records = λ enough. absurd (omega (arith, past, enough)); refused = λ _. (refl, refl) }

@@ -1,3 +1,3 @@
 pub mod Slices
-pub mod Compaction
 pub mod Contents
+pub mod Compaction

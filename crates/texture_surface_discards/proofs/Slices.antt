@@ -8,10 +8,10 @@ use lib.Seq.{sets}
 use Rattle.definition.specs.Surfaces.{surfaceAt}
 use Rattle.definition.specs.declared.Surface.{Surface}
 use Rattle.lists.specs.Records.{recordAt}
-use Rattle.lists.proofs.Records.{Written, write-append}
+use Rattle.lists.proofs.Records.{Written}
 use Rattle.records.specs.Lent.{decodeSurface, encodeSurface, surfaceIn}
 use Rattle.records.proofs.Numbers.{surface-written}
-use Rattle.texture_surface_discards.specs.Slices.{numbers, Listed}
+use Rattle.texture_surface_discards.specs.Slices.{numbers}
 
 -- What a slice has past its end.
 abbrev pub none : Surface
@@ -40,10 +40,3 @@ numbers-at (x ∷ l) (suc i) h = numbers-at l i (omega arith) ∙ ap (λ (q : �
 -- A record is written at place i.
 pub slice-written : (l : List Surface) (i : ℕ) (s : Surface) → i < length l → Written 3 decodeSurface i s (numbers l) (numbers (set l i s))
 slice-written l i s h = surface-written (numbers l) (numbers (set l i s)) i s (omega (arith, numbers-length l)) (numbers-set l i s)
-
--- With room the discard is appended; without, n is handed back and the slice stays.
-pub listed : (n : ℕ) (s : Surface) (l : List Surface) → n < length l → Listed n s l (set l n s) (n + 1)
-listed n s l h = record { appended = λ _. write-append 3 decodeSurface n s (numbers l) (numbers (set l n s)) (slice-written l n s h); refused = λ full. absurd (omega (arith, h, full)) }
-
-pub no-room : (n : ℕ) (s : Surface) (l : List Surface) → length l ≤ n → Listed n s l l n
-no-room n s l h = record { appended = λ fits. absurd (omega (arith, h, fits)); refused = λ _. (refl, refl) }

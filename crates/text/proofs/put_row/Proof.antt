@@ -45,7 +45,7 @@ returns c =
     let a = first .before .before .before .before .before .args in
     let e : l .i ≡ rowNumbers = omega arith in
     let t = take (a .at) (a .out .now) in
-    (rw e at (l .inv .0 t (number-first t _ _ _ _ (first .before .u32-at .ensures) (first .put-decimal .ensures .0))), omega arith)
+    (rw e at (l .inv .0 t (number-first t _ _ _ _ (first .before .u32-at .ensures) (first .put-decimal .ensures .0 .0))), omega arith)
 
 pub put-row-spec : {M : Type 1} → statement M
 put-row-spec =

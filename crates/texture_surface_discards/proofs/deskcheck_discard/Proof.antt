@@ -45,7 +45,8 @@ use Rattle.definition.specs.declared.Surface.{Surface}
 use Rattle.definition.proofs.Surface as T
 use Rattle.definition.proofs.Surface.Laws as T′
 use Rattle.texture_surface_discards.specs.Slices.{Listed}
-use Rattle.texture_surface_discards.proofs.Slices.{none, listed, no-room}
+use Rattle.texture_surface_discards.proofs.Slices.{none}
+use Rattle.texture_surface_discards.proofs.Contents.{listed, no-room}
 use Rattle.texture_surface_discards.proofs.deskcheck_discard.Key.{name as #discard}
 use Rattle.texture_surface_discards.proofs.deskcheck_discard as discard
 use Rattle.texture_surface_discards.proofs.deskcheck_discard.Statement as stated

@@ -247,7 +247,7 @@ module _ {M : Type 1} (𝓤 : URA M) (H : Heap 𝓤) (A : Atoms 𝓤) (W : Given
               forget ! 4 refl $ forget ! 8 refl $ move ! (18 ∷ 19 ∷ []) $ free1 ! $ move ! (15 ∷ 18 ∷ []) $ free1 ! $ move ! (15 ∷ 17 ∷ []) $ free1 ! $ move ! (15 ∷ 16 ∷ []) $ free1 ! $
               move ! (3 ∷ 15 ∷ []) $ free1 ! $ move ! (3 ∷ 14 ∷ []) $ free1 ! $ move ! (3 ∷ 13 ∷ []) $ free1 ! $ move ! (3 ∷ 12 ∷ []) $ free1 ! $ move ! (3 ∷ 11 ∷ []) $ free1 ! $
               move ! (3 ∷ 10 ∷ []) $ free1 ! $ move ! (3 ∷ 9 ∷ []) $ free1 ! $ move ! (3 ∷ 8 ∷ []) $ free1 ! $ move ! (3 ∷ 7 ∷ []) $ free1 ! $ move ! (3 ∷ 6 ∷ []) $ free1 ! $
-              move ! (3 ∷ 5 ∷ []) $ free1 ! $ move ! (3 ∷ 4 ∷ []) $ free1 ! $ free0 ! $ keep ! (0 ∷ 1 ∷ 2 ∷ []) $ by ! (exits l′ k long fits-k (retained a n l l′ k i enough going over))
+              move ! (3 ∷ 5 ∷ []) $ free1 ! $ move ! (3 ∷ 4 ∷ []) $ free1 ! $ free0 ! $ keep ! (0 ∷ 1 ∷ 2 ∷ []) $ by ! (exits l′ k long fits-k (retained a n l l′ k i long enough going over))
 
         -- The invariant at a state, and the states below it.
         abbrev Inv : State a n l → SProp 𝓤
