@@ -1,5 +1,5 @@
 -- What a course tells of a whole pass: numbers 49 and 50, and the room of every step, since actions only grow and clears come from discards.
-use Prim.Native.Nat.{ℕ, _≤_}
+use Prim.Native.Nat.{ℕ, _*_, _≤_}
 use native.Mathlib.Omega.{arith}
 use mathlib.Core.Path.{_≡_, refl, sym, ap, subst, _∙_}
 use mathlib.Core.Bool.{Bool, true, false, _&&_, and-true}
@@ -7,7 +7,6 @@ use mathlib.Core.List.{List, [], _∷_, _++_, map}
 use mathlib.Core.Option.{Option, none, some}
 use lib.Dec.{leb}
 use lib.ListN.{length, length-append}
-use borrow.Author.Tests.{leb-true}
 use Rattle.definition.specs.Sizes.{maxDiscards, maxActions, maxClears}
 use Rattle.definition.specs.Verdict.{nowhere, _then_, unless}
 use Rattle.definition.specs.MemoryInit.{Lists, implicitAt, matching, registerInitAction, registered, discarded}
@@ -86,17 +85,17 @@ attach-grows size register discard (x ∷ xs) l =
 pub actions-grow : (xs : List Attached) (l : Lists) → length (l .actions) ≤ length (attachAll xs l .actions)
 actions-grow = attach-grows (λ l. length (l .actions)) register-grows discard-grows
 
--- The lists have room in the lent lists.
-pub record Fit (l : Lists) : Type 0 where
+-- The lists have room in the lent lists, of which that of the actions has so many numbers.
+pub record Fit (space : ℕ) (l : Lists) : Type 0 where
   pub discards : length (l .discards) ≤ maxDiscards
-  pub actions : length (l .actions) ≤ maxActions
+  pub actions : 6 * length (l .actions) ≤ space
   pub clears : length (l .clears) ≤ maxClears
 
--- The first attachments xs of a pass that fits, from lists with no clears. A pass lists at most nine discards, so that at most 73 clears are returned.
-pub fit-first : (xs ys : List Attached) (l : Lists) → discardsFit (xs ++ ys) l ≡ true → actionsFit (xs ++ ys) l ≡ true → length (l .discards) ≤ maxDiscards → length (l .clears) ≡ 0
-    → listedByAll (xs ++ ys) ≤ 9 → Fit (attachAll xs l)
-fit-first xs ys l d a h z n = record {
+-- The first attachments xs of a pass for whose discards and actions there is room, from lists with no clears. A pass lists at most nine discards, so that at most 73 clears are returned.
+pub fit-first : (space : ℕ) (xs ys : List Attached) (l : Lists) → discardsFit (xs ++ ys) l ≡ true → 6 * length (attachAll (xs ++ ys) l .actions) ≤ space → length (l .discards) ≤ maxDiscards
+    → length (l .clears) ≡ 0 → listedByAll (xs ++ ys) ≤ 9 → Fit space (attachAll xs l)
+fit-first space xs ys l d a h z n = record {
   discards = discards-fit xs l (and-left (discardsFit xs l) (discardsFit ys (attachAll xs l)) (sym (fit-append xs ys l) ∙ d)) h;
-  actions = omega (arith, actions-grow ys (attachAll xs l), ap (λ (q : Lists). length (q .actions)) (attach-append xs ys l), leb-true (length (attachAll (xs ++ ys) l .actions)) maxActions a);
+  actions = omega (arith, actions-grow ys (attachAll xs l), ap (λ (q : Lists). length (q .actions)) (attach-append xs ys l), a);
   clears = omega (arith, all-held xs l, listed-append xs ys);
 }

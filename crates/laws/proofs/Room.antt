@@ -1,24 +1,25 @@
--- The room that the lists take: what a pass clears was listed before it or is listed by it, so that clears and discards together grow by what it lists.
+-- The room that the lists take: what a pass clears was listed before it or is listed by it, so that clears and discards together grow by what it lists,
+-- and actions and discards by that and one action an attachment.
 use mathlib.Core.Path.{_≡_, refl}
 use mathlib.Core.Bool.{Bool, true, false, _&&_, cond}
-use mathlib.Core.List.{List, [], _∷_, _++_}
+use mathlib.Core.List.{List, [], _∷_, _++_, map}
 use mathlib.Core.Option.{Option, none, some}
 use Prim.Native.Nat.{ℕ, zero, suc, _+_, _≤_}
 use native.Mathlib.Omega.{arith}
 use lib.Dec.{leb}
-use lib.ListN.{length, length-append}
+use lib.ListN.{length, length-append, length-map}
 use borrow.Author.Tests.{leb-true}
 use Rattle.definition.specs.Sizes.{maxDiscards}
 use Rattle.definition.specs.Surfaces.{named}
 use Rattle.definition.specs.Session.{Session, Pass, isNone, viewRange}
-use Rattle.definition.specs.MemoryInit.{Lists, matching, registerInitAction, registered, discarded}
+use Rattle.definition.specs.MemoryInit.{Lists, implicitAt, matching, registerInitAction, registered, discarded}
 use Rattle.definition.specs.Attachments.{Attached, resolveTo, rangeIn, kindOf, discards, attach, attachAll, depthStencilOf, depthStencilPart, resolvePart, colorOf, slotPart, slotParts, attachments}
 use Rattle.definition.specs.Pass.{discardsFit}
 use Rattle.definition.specs.declared.Range.{Range}
 use Rattle.definition.specs.declared.Slot.{Slot}
 use Rattle.definition.specs.declared.MemoryInitKind.{MemoryInitKind}
 use Rattle.definition.specs.declared.MemoryInitKind.the-variants.{ImplicitlyInitialized, NeedsInitializedMemory}
-use Rattle.laws.specs.Room.{held, listedBy, listedByAll}
+use Rattle.laws.specs.Room.{held, entered, listedBy, listedByAll}
 use Rattle.laws.proofs.Tests.{and-left, and-right}
 use Rattle.laws.proofs.Lists.{matching-others}
 
@@ -41,6 +42,34 @@ attach-held x l = omega (arith, discarded-held (rangeIn x) (discards x) (registe
 pub all-held : (xs : List Attached) (l : Lists) → held (attachAll xs l) ≤ held l + listedByAll xs
 all-held [] l = omega arith
 all-held (x ∷ xs) l = omega (arith, attach-held x l, all-held xs (attach x l))
+
+-- ── actions and discards
+
+-- A registration adds one action, and one for each discard that leaves the list.
+pub register-entered : (r : Range) (k : Option MemoryInitKind) (l : Lists) → entered (registered r k l) ≤ entered l + 1
+unfolding registerInitAction
+register-entered r none l = omega arith
+register-entered r (some NeedsInitializedMemory) l =
+    omega (
+      arith,
+      length-append (l .actions) (record { range = r; kind = NeedsInitializedMemory } ∷ map implicitAt (matching r (l .discards))),
+      length-map (matching r (l .discards)) implicitAt,
+      matching-others r (l .discards),
+    )
+register-entered r (some ImplicitlyInitialized) l =
+    omega (arith, length-append (l .actions) (record { range = r; kind = ImplicitlyInitialized } ∷ []), matching-others r (l .discards))
+
+pub discarded-entered : (r : Range) (b : Bool) (l : Lists) → entered (discarded r b l) ≤ entered l + cond b (length (named r)) 0
+discarded-entered r true l = omega (arith, length-append (l .discards) (named r))
+discarded-entered r false l = omega arith
+
+pub attach-entered : (x : Attached) (l : Lists) → entered (attach x l) ≤ entered l + 1 + listedBy x
+attach-entered x l = omega (arith, discarded-entered (rangeIn x) (discards x) (registered (rangeIn x) (kindOf x) l), register-entered (rangeIn x) (kindOf x) l)
+
+-- Attachments add one action each, and one for each discard that there was or that they list.
+pub all-entered : (xs : List Attached) (l : Lists) → entered (attachAll xs l) ≤ entered l + length xs + listedByAll xs
+all-entered [] l = omega arith
+all-entered (x ∷ xs) l = omega (arith, attach-entered x l, all-entered xs (attach x l))
 
 -- ── what a pass lists
 

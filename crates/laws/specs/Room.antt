@@ -1,4 +1,4 @@
--- How many entries the clears and the discards have, and how many a pass may add.
+-- How many entries the clears, the actions and the discards have, and how many a pass may add.
 use Prim.Native.Nat.{ℕ, _+_}
 use mathlib.Core.List.{List, [], _∷_}
 use mathlib.Core.Bool.{cond}
@@ -10,6 +10,10 @@ use Rattle.definition.specs.Attachments.{Attached, rangeIn, discards}
 -- Entries among the clears and the discards.
 abbrev pub held : Lists → ℕ
 held l = length (l .clears) + length (l .discards)
+
+-- Entries among the actions and the discards.
+abbrev pub entered : Lists → ℕ
+entered l = length (l .actions) + length (l .discards)
 
 -- Entries that an attachment lists, and that attachments list.
 abbrev pub listedBy : Attached → ℕ

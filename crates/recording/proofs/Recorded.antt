@@ -75,10 +75,10 @@ pub recorded-as : (xs ys : List Attached) (n r : Counts) (d d′ a a′ c c′ :
 recorded-as xs ys n r d d′ a a′ c c′ e = subst (λ q. Recorded q n r d d′ a a′ c c′) (sym e)
 
 -- An attachment that is planned so.
-pub recorded-attach : (p : Planned) (x : Attached) (n r : Counts) (d d′ a a′ c c′ : List ℕ) → PlannedAs p x → Lent n d a c
-    → Fit (applyPlan (p .range) (initKind (p .kind)) (p .discards) (held n d a c)) → Leaves (applyPlan (p .range) (initKind (p .kind)) (p .discards) (held n d a c)) n r d d′ a a′ c c′
+pub recorded-attach : (p : Planned) (x : Attached) (space : ℕ) (n r : Counts) (d d′ a a′ c c′ : List ℕ) → PlannedAs p x → Lent n d c
+    → Fit space (applyPlan (p .range) (initKind (p .kind)) (p .discards) (held n d a c)) → Leaves (applyPlan (p .range) (initKind (p .kind)) (p .discards) (held n d a c)) n r d d′ a a′ c c′
     → Recorded (x ∷ []) n r d d′ a a′ c c′
-recorded-attach p x n r d d′ a a′ c c′ e lent fit left =
+recorded-attach p x space n r d d′ a a′ c c′ e lent fit left =
     let l = applyPlan (p .range) (initKind (p .kind)) (p .discards) (held n d a c) in
     let same : l ≡ attach x (held n d a c) = λ i. applyPlan (e .range i) (e .kind i) (e .discards i) (held n d a c) in
     let few : r .discards ≤ maxDiscards = omega (arith, leaves-discards l n r d d′ a a′ c c′ left, fit .discards) in
@@ -92,38 +92,42 @@ recorded-attach p x n r d d′ a a′ c c′ e lent fit left =
 
 -- ── what fits
 
-pub fitting-left : (xs ys : List Attached) (l : Lists) → Fitting (xs ++ ys) l → Fitting xs l
-fitting-left xs ys l f us vs e = f us (vs ++ ys) (ap (λ q. q ++ ys) e ∙ append-assoc us vs ys)
+pub fitting-left : (space : ℕ) (xs ys : List Attached) (l : Lists) → Fitting space (xs ++ ys) l → Fitting space xs l
+fitting-left space xs ys l f us vs e = f us (vs ++ ys) (ap (λ q. q ++ ys) e ∙ append-assoc us vs ys)
 
-pub fitting-right : (xs ys : List Attached) (l : Lists) → Fitting (xs ++ ys) l → Fitting ys (attachAll xs l)
-fitting-right xs ys l f us vs e = subst Fit (attach-append xs us l) (f (xs ++ us) vs (ap (λ q. xs ++ q) e ∙ sym (append-assoc xs us vs)))
+pub fitting-right : (space : ℕ) (xs ys : List Attached) (l : Lists) → Fitting space (xs ++ ys) l → Fitting space ys (attachAll xs l)
+fitting-right space xs ys l f us vs e = subst (Fit space) (attach-append xs us l) (f (xs ++ us) vs (ap (λ q. xs ++ q) e ∙ sym (append-assoc xs us vs)))
 
-pub fitting-as : (xs ys : List Attached) (l m : Lists) → ys ≡ xs → m ≡ l → Fitting xs l → Fitting ys m
-fitting-as xs ys l m e g f = subst (λ q. Fitting q m) (sym e) (subst (Fitting xs) (sym g) f)
+pub fitting-as : (space : ℕ) (xs ys : List Attached) (l m : Lists) → ys ≡ xs → m ≡ l → Fitting space xs l → Fitting space ys m
+fitting-as space xs ys l m e g f = subst (λ q. Fitting space q m) (sym e) (subst (Fitting space xs) (sym g) f)
+
+-- A lent list keeps its length.
+pub fitting-kept : (space after : ℕ) (xs : List Attached) (l : Lists) → after ≡ space → Fitting space xs l → Fitting after xs l
+fitting-kept space after xs l e = subst (λ (q : ℕ). Fitting q xs l) (sym e)
 
 -- A planned attachment.
-pub fitting-planned : (p : Planned) (x : Attached) (xs : List Attached) (l : Lists) → PlannedAs p x → Fitting (x ∷ xs) l → Fit (applyPlan (p .range) (initKind (p .kind)) (p .discards) l)
-fitting-planned p x xs l e f = subst Fit (λ i. applyPlan (sym (e .range) i) (sym (e .kind) i) (sym (e .discards) i) l) (f (x ∷ []) xs refl)
+pub fitting-planned : (space : ℕ) (p : Planned) (x : Attached) (xs : List Attached) (l : Lists) → PlannedAs p x → Fitting space (x ∷ xs) l → Fit space (applyPlan (p .range) (initKind (p .kind)) (p .discards) l)
+fitting-planned space p x xs l e f = subst (Fit space) (λ i. applyPlan (sym (e .range) i) (sym (e .kind) i) (sym (e .discards) i) l) (f (x ∷ []) xs refl)
 
 parts-suc : (S : Session) (p : Pass) (n : ℕ) → slotParts S p n ++ slotPart S (p .slot n) ≡ slotParts S p (suc n)
 unfolding slotParts
 parts-suc S p n = refl
 
 -- Fewer slots.
-parts-fit : (S : Session) (p : Pass) (l : Lists) (k n : ℕ) → k ≤ n → Fitting (slotParts S p n) l → Fitting (slotParts S p k) l
-parts-fit S p l k zero h f =
+parts-fit : (space : ℕ) (S : Session) (p : Pass) (l : Lists) (k n : ℕ) → k ≤ n → Fitting space (slotParts S p n) l → Fitting space (slotParts S p k) l
+parts-fit space S p l k zero h f =
     let e : k ≡ zero = omega arith in
-    fitting-as (slotParts S p zero) (slotParts S p k) l l (ap (slotParts S p) e) refl f
-parts-fit S p l k (suc n) h f =
+    fitting-as space (slotParts S p zero) (slotParts S p k) l l (ap (slotParts S p) e) refl f
+parts-fit space S p l k (suc n) h f =
     by-order k n
-    (λ g. parts-fit S p l k n g (fitting-left (slotParts S p n) (slotPart S (p .slot n)) l (fitting-as (slotParts S p (suc n)) (slotParts S p n ++ slotPart S (p .slot n)) l l (parts-suc S p n) refl f)))
-    (λ g. let e : k ≡ suc n = omega arith in fitting-as (slotParts S p (suc n)) (slotParts S p k) l l (ap (slotParts S p) e) refl f)
+    (λ g. parts-fit space S p l k n g (fitting-left space (slotParts S p n) (slotPart S (p .slot n)) l (fitting-as space (slotParts S p (suc n)) (slotParts S p n ++ slotPart S (p .slot n)) l l (parts-suc S p n) refl f)))
+    (λ g. let e : k ≡ suc n = omega arith in fitting-as space (slotParts S p (suc n)) (slotParts S p k) l l (ap (slotParts S p) e) refl f)
 
 -- Slot k, after those before it.
-pub fitting-slot : (S : Session) (p : Pass) (l m : Lists) (k n : ℕ) (c : Slot) → k < n → Fitting (slotParts S p n) l → c ≡ p .slot k → m ≡ attachAll (slotParts S p k) l → Fitting (slotPart S c) m
-fitting-slot S p l m k n c h f e g =
-    fitting-as (slotPart S (p .slot k)) (slotPart S c) (attachAll (slotParts S p k) l) m (ap (slotPart S) e) g
-    (fitting-right (slotParts S p k) (slotPart S (p .slot k)) l (fitting-as (slotParts S p (k + 1)) (slotParts S p k ++ slotPart S (p .slot k)) l l (sym (parts-turn S p k)) refl (parts-fit S p l (k + 1) n (omega arith) f)))
+pub fitting-slot : (space : ℕ) (S : Session) (p : Pass) (l m : Lists) (k n : ℕ) (c : Slot) → k < n → Fitting space (slotParts S p n) l → c ≡ p .slot k → m ≡ attachAll (slotParts S p k) l → Fitting space (slotPart S c) m
+fitting-slot space S p l m k n c h f e g =
+    fitting-as space (slotPart S (p .slot k)) (slotPart S c) (attachAll (slotParts S p k) l) m (ap (slotPart S) e) g
+    (fitting-right space (slotParts S p k) (slotPart S (p .slot k)) l (fitting-as space (slotParts S p (k + 1)) (slotParts S p k ++ slotPart S (p .slot k)) l l (sym (parts-turn S p k)) refl (parts-fit space S p l (k + 1) n (omega arith) f)))
 
 -- One slot further.
 pub recorded-slot : (S : Session) (p : Pass) (k : ℕ) (x : Slot) (n m r : Counts) (d d₁ d′ a a₁ a′ c c₁ c′ : List ℕ) → x ≡ p .slot k → Recorded (slotParts S p k) n m d d₁ a a₁ c c₁
@@ -133,36 +137,34 @@ recorded-slot S p k x n m r d d₁ d′ a a₁ a′ c c₁ c′ e g h =
     (recorded-then (slotParts S p k) (slotPart S x) n m r d d₁ d′ a a₁ a′ c c₁ c′ g h)
 
 -- A slot's colour, and its resolve target after it.
-pub fitting-color : (S : Session) (c : Slot) (l : Lists) → isNone (c .view) ≡ false → Fitting (slotPart S c) l → Fitting (colorOf S c ∷ resolvePart S c) l
-fitting-color S c l e f = fitting-as (slotPart S c) (colorOf S c ∷ resolvePart S c) l l (sym (slot-some S c e)) refl f
+pub fitting-color : (space : ℕ) (S : Session) (c : Slot) (l : Lists) → isNone (c .view) ≡ false → Fitting space (slotPart S c) l → Fitting space (colorOf S c ∷ resolvePart S c) l
+fitting-color space S c l e f = fitting-as space (slotPart S c) (colorOf S c ∷ resolvePart S c) l l (sym (slot-some S c e)) refl f
 
-pub fitting-resolve : (S : Session) (c : Slot) (l m : Lists) → isNone (c .view) ≡ false → isNone (c .resolve) ≡ false → m ≡ attachAll (colorOf S c ∷ []) l → Fitting (slotPart S c) l
-    → Fitting (resolveTo (c .resolve) (viewRange (S .view (c .resolve))) ∷ []) m
-fitting-resolve S c l m e g h f =
+pub fitting-resolve : (space : ℕ) (S : Session) (c : Slot) (l m : Lists) → isNone (c .view) ≡ false → isNone (c .resolve) ≡ false → m ≡ attachAll (colorOf S c ∷ []) l → Fitting space (slotPart S c) l
+    → Fitting space (resolveTo (c .resolve) (viewRange (S .view (c .resolve))) ∷ []) m
+fitting-resolve space S c l m e g h f =
     let target = resolveTo (c .resolve) (viewRange (S .view (c .resolve))) in
-    fitting-as (target ∷ []) (target ∷ []) (attachAll (colorOf S c ∷ []) l) m refl h
-    (fitting-right (colorOf S c ∷ []) (target ∷ []) l (fitting-as (slotPart S c) (colorOf S c ∷ target ∷ []) l l (sym (slot-resolving S c e g)) refl f))
+    fitting-as space (target ∷ []) (target ∷ []) (attachAll (colorOf S c ∷ []) l) m refl h
+    (fitting-right space (colorOf S c ∷ []) (target ∷ []) l (fitting-as space (slotPart S c) (colorOf S c ∷ target ∷ []) l l (sym (slot-resolving S c e g)) refl f))
 
 -- ── a whole pass
 
 -- The lent lists keep their length, so they are long enough for what follows.
-pub lent-after : (xs : List Attached) (n r : Counts) (d d′ a a′ c c′ : List ℕ) → Lent n d a c → Recorded xs n r d d′ a a′ c c′ → length d′ ≡ length d → length a′ ≡ length a → length c′ ≡ length c
-    → Lent r d′ a′ c′
-lent-after xs n r d d′ a a′ c c′ lent g ld la lc = record {
+pub lent-after : (xs : List Attached) (n r : Counts) (d d′ a a′ c c′ : List ℕ) → Lent n d c → Recorded xs n r d d′ a a′ c c′ → length d′ ≡ length d → length c′ ≡ length c → Lent r d′ c′
+lent-after xs n r d d′ a a′ c c′ lent g ld lc = record {
   held = g .small;
   discards = omega (arith, lent .discards);
-  actions = omega (arith, lent .actions);
   clears = omega (arith, lent .clears);
 }
 
-pub fitting-first : (S : Session) (p : Pass) (l : Lists) → Fitting (attachments S p) l → Fitting (depthStencilPart S p) l
+pub fitting-first : (space : ℕ) (S : Session) (p : Pass) (l : Lists) → Fitting space (attachments S p) l → Fitting space (depthStencilPart S p) l
 unfolding attachments
-fitting-first S p l f = fitting-left (depthStencilPart S p) (slotParts S p (p .colors)) l f
+fitting-first space S p l f = fitting-left space (depthStencilPart S p) (slotParts S p (p .colors)) l f
 
-pub fitting-slots : (S : Session) (p : Pass) (l m : Lists) (n : ℕ) → n ≡ p .colors → m ≡ attachAll (depthStencilPart S p) l → Fitting (attachments S p) l → Fitting (slotParts S p n) m
+pub fitting-slots : (space : ℕ) (S : Session) (p : Pass) (l m : Lists) (n : ℕ) → n ≡ p .colors → m ≡ attachAll (depthStencilPart S p) l → Fitting space (attachments S p) l → Fitting space (slotParts S p n) m
 unfolding attachments
-fitting-slots S p l m n e g f =
-    fitting-as (slotParts S p (p .colors)) (slotParts S p n) (attachAll (depthStencilPart S p) l) m (ap (slotParts S p) e) g (fitting-right (depthStencilPart S p) (slotParts S p (p .colors)) l f)
+fitting-slots space S p l m n e g f =
+    fitting-as space (slotParts S p (p .colors)) (slotParts S p n) (attachAll (depthStencilPart S p) l) m (ap (slotParts S p) e) g (fitting-right space (depthStencilPart S p) (slotParts S p (p .colors)) l f)
 
 pub recorded-all : (S : Session) (p : Pass) (slots : ℕ) (n m r : Counts) (d d₁ d′ a a₁ a′ c c₁ c′ : List ℕ) → slots ≡ p .colors → Recorded (depthStencilPart S p) n m d d₁ a a₁ c c₁
     → Recorded (slotParts S p slots) m r d₁ d′ a₁ a′ c₁ c′ → Recorded (attachments S p) n r d d′ a a′ c c′

@@ -10,16 +10,15 @@ use Rattle.memory_init.specs.declared.Counts.{Counts}
 use Rattle.memory_init.specs.Lent.{held, Spared}
 use Rattle.course.proofs.Room.{Fit}
 
--- The lent lists are long enough: 64 discards, 512 actions, 80 clears.
-pub record Lent (n : Counts) (d a c : List ℕ) : Type 0 where
+-- The lent lists of discards and clears are long enough: 64 discards, 80 clears.
+pub record Lent (n : Counts) (d c : List ℕ) : Type 0 where
   pub held : n .discards ≤ maxDiscards
   pub discards : 192 ≤ length d
-  pub actions : 3072 ≤ length a
   pub clears : 240 ≤ length c
 
--- There is room for what every first part of xs leaves, from the lists l.
-abbrev pub Fitting : List Attached → Lists → Type 0
-Fitting xs l = (ys zs : List Attached) → xs ≡ ys ++ zs → Fit (attachAll ys l)
+-- There is room for what every first part of xs leaves, from the lists l, where the lent list of actions has so many numbers.
+abbrev pub Fitting : ℕ → List Attached → Lists → Type 0
+Fitting space xs l = (ys zs : List Attached) → xs ≡ ys ++ zs → Fit space (attachAll ys l)
 
 -- The attachments xs are recorded: the lists are the definition's, and numbers past them stay.
 pub record Recorded (xs : List Attached) (n r : Counts) (d d′ a a′ c c′ : List ℕ) : Type 0 where

@@ -11,6 +11,7 @@ use session::colors;
 use session::derived::is_none;
 use session::slot;
 ghost use mathlib.Core.List.{_∷_, []};
+ghost use lib.ListN.{length};
 ghost use Rattle.definition.specs.MemoryInit.{applyPlan};
 ghost use Rattle.definition.specs.Session.{session};
 ghost use Rattle.definition.specs.Attachments.{Attached, depthStencilPart, slotPart, slotParts, attachments};
@@ -27,7 +28,7 @@ fn add_planned(
     n: Counts,
     p: Planned,
 ) -> Counts
-    requires { ⌜ Lent n (now discards) (now actions) (now clears) × Fit (applyPlan (p .range) (initKind (p .kind)) (p .discards) (held n (now discards) (now actions) (now clears))) ⌝ }
+    requires { ⌜ Lent n (now discards) (now clears) × Fit (length (now actions)) (applyPlan (p .range) (initKind (p .kind)) (p .discards) (held n (now discards) (now actions) (now clears))) ⌝ }
     ensures { λ r. ⌜ ((x : Attached) → PlannedAs p x → Recorded (x ∷ []) n r (now (discards .entry)) (now (discards .exit)) (now (actions .entry)) (now (actions .exit)) (now (clears .entry)) (now (clears .exit))) ⌝ }
 {
     let range = p.range;
@@ -45,7 +46,7 @@ fn add_depth_stencil(
     clears: &mut [u32],
     n: Counts,
 ) -> Counts
-    requires { ⌜ PartOf (session (now s)) d (depthStencilPart (session (now s)) (session (now s) .pass pass)) × Lent n (now discards) (now actions) (now clears) × Fitting (depthStencilPart (session (now s)) (session (now s) .pass pass)) (held n (now discards) (now actions) (now clears)) ⌝ }
+    requires { ⌜ PartOf (session (now s)) d (depthStencilPart (session (now s)) (session (now s) .pass pass)) × Lent n (now discards) (now clears) × Fitting (length (now actions)) (depthStencilPart (session (now s)) (session (now s) .pass pass)) (held n (now discards) (now actions) (now clears)) ⌝ }
     ensures { λ r. ⌜ Recorded (depthStencilPart (session (now (s .entry))) (session (now (s .entry)) .pass pass)) n r (now (discards .entry)) (now (discards .exit)) (now (actions .entry)) (now (actions .exit)) (now (clears .entry)) (now (clears .exit)) ⌝ }
 {
     if !d.present {
@@ -64,7 +65,7 @@ fn add_slot(
     clears: &mut [u32],
     n: Counts,
 ) -> Counts
-    requires { ⌜ Lent n (now discards) (now actions) (now clears) × Fitting (slotPart (session (now s)) c) (held n (now discards) (now actions) (now clears)) ⌝ }
+    requires { ⌜ Lent n (now discards) (now clears) × Fitting (length (now actions)) (slotPart (session (now s)) c) (held n (now discards) (now actions) (now clears)) ⌝ }
     ensures { λ r. ⌜ Recorded (slotPart (session (now (s .entry))) c) n r (now (discards .entry)) (now (discards .exit)) (now (actions .entry)) (now (actions .exit)) (now (clears .entry)) (now (clears .exit)) ⌝ }
 {
     if is_none(c.view) {
@@ -93,7 +94,7 @@ fn add_slots(
     clears: &mut [u32],
     n: Counts,
 ) -> Counts
-    requires { ⌜ Lent n (now discards) (now actions) (now clears) × Fitting (slotParts (session (now s)) (session (now s) .pass pass) slots) (held n (now discards) (now actions) (now clears)) ⌝ }
+    requires { ⌜ Lent n (now discards) (now clears) × Fitting (length (now actions)) (slotParts (session (now s)) (session (now s) .pass pass) slots) (held n (now discards) (now actions) (now clears)) ⌝ }
     ensures { λ r. ⌜ Recorded (slotParts (session (now (s .entry))) (session (now (s .entry)) .pass pass) slots) n r (now (discards .entry)) (now (discards .exit)) (now (actions .entry)) (now (actions .exit)) (now (clears .entry)) (now (clears .exit)) ⌝ }
 {
     let mut after = n;
@@ -115,7 +116,7 @@ pub fn add_attachments(
     clears: &mut [u32],
     n: Counts,
 ) -> Counts
-    requires { ⌜ PartOf (session (now s)) d (depthStencilPart (session (now s)) (session (now s) .pass pass)) × Lent n (now discards) (now actions) (now clears) × Fitting (attachments (session (now s)) (session (now s) .pass pass)) (held n (now discards) (now actions) (now clears)) ⌝ }
+    requires { ⌜ PartOf (session (now s)) d (depthStencilPart (session (now s)) (session (now s) .pass pass)) × Lent n (now discards) (now clears) × Fitting (length (now actions)) (attachments (session (now s)) (session (now s) .pass pass)) (held n (now discards) (now actions) (now clears)) ⌝ }
     ensures { λ r. ⌜ Recorded (attachments (session (now (s .entry))) (session (now (s .entry)) .pass pass)) n r (now (discards .entry)) (now (discards .exit)) (now (actions .entry)) (now (actions .exit)) (now (clears .entry)) (now (clears .exit)) ⌝ }
 {
     let first = add_depth_stencil(s, pass, d, discards, actions, clears, n);

@@ -1,2 +1,4 @@
+pub mod Behind
 pub mod Outcome
 pub mod Reply
+pub mod Room

@@ -1,11 +1,11 @@
 -- The outcome of a check, by what refuses the pass: its row, operations and views, then the room of the lists, or nothing.
-use Prim.Native.Nat.{ℕ, _≤_}
+use Prim.Native.Nat.{ℕ, _+_, _*_, _≤_, min}
 use native.Mathlib.Omega.{arith}
 use mathlib.Core.Path.{_≡_, refl, sym, ap, subst, _∙_}
 use mathlib.Core.Bool.{Bool, true, false, cond}
 use mathlib.Core.List.{List, [], append-nil}
 use lib.ListN.{length, length-map}
-use Rattle.definition.specs.Sizes.{maxDiscards}
+use Rattle.definition.specs.Sizes.{maxDiscards, maxActions}
 use Rattle.definition.specs.Session.{Pass, Session}
 use Rattle.definition.specs.Verdict.{nowhere, isFine}
 use Rattle.definition.specs.Readable.{passReads}
@@ -32,8 +32,9 @@ use Rattle.recording.specs.Recorded.{Fitting, Recorded}
 use Rattle.recording.proofs.Recorded.{fitting-as}
 use Rattle.render.specs.declared.PassReply.{PassReply}
 use Rattle.render.specs.declared.PassOutcome.{PassOutcome}
-use Rattle.render.specs.Outcome.{replied, refusedOutcome, acceptedOutcome, Whole, Accepted, Checked}
+use Rattle.render.specs.Outcome.{maxAdded, replied, refusedOutcome, acceptedOutcome, Whole, Accepted, Checked}
 use Rattle.render.proofs.Reply.{reply-accepted}
+use Rattle.render.proofs.Room.{pass-actions}
 
 -- ── the room of an accepted pass
 
@@ -62,21 +63,27 @@ held-cleared : (n : Counts) (d a c : List ℕ) → held (cleared n) d a c ≡ ne
 unfolding records
 held-cleared n d a c = refl
 
-module _ (S : Session) (p : Pass) (n : Counts) (d a c : List ℕ) (few : n .discards ≤ maxDiscards) (colors : p .colors ≤ 8)
+module _ (S : Session) (p : Pass) (n : Counts) (d a c : List ℕ) (few : n .discards ≤ maxDiscards) (space : 6 * min maxActions (n .actions + maxAdded) ≤ length a) (colors : p .colors ≤ 8)
     (room : isFine (roomVerdict (attachments S p) (newPass (held n d a c))) ≡ true) where
-  fitting-new : Fitting (attachments S p) (newPass (held n d a c))
+  few-held : length (newPass (held n d a c) .discards) ≤ maxDiscards
+  few-held = omega (arith, records-length 3 decodeSurface (n .discards) d)
+
+  few-actions : length (attachAll (attachments S p) (newPass (held n d a c)) .actions) ≤ min maxActions (n .actions + maxAdded)
+  few-actions = omega (arith, pass-actions S p (newPass (held n d a c)) colors few-held (room-actions _ _ room), records-length 6 decodeAction (n .actions) a)
+
+  fitting-new : Fitting (length a) (attachments S p) (newPass (held n d a c))
   fitting-new ys zs e =
-      fit-first ys zs (newPass (held n d a c)) (ap (λ q. discardsFit q (newPass (held n d a c))) (sym e) ∙ room-discards _ _ room)
-      (ap (λ q. actionsFit q (newPass (held n d a c))) (sym e) ∙ room-actions _ _ room)
-      (omega (arith, records-length 3 decodeSurface (n .discards) d))
+      fit-first (length a) ys zs (newPass (held n d a c)) (ap (λ q. discardsFit q (newPass (held n d a c))) (sym e) ∙ room-discards _ _ room)
+      (omega (arith, ap (λ q. length (attachAll q (newPass (held n d a c)) .actions)) e, few-actions, space))
+      few-held
       refl
       (omega (arith, ap listedByAll e, pass-listed S p))
 
   -- Every step has room.
-  pub fitting-pass : Fitting (attachments S p) (held (cleared n) d a c)
-  fitting-pass = fitting-as (attachments S p) (attachments S p) (newPass (held n d a c)) (held (cleared n) d a c) refl (held-cleared n d a c) fitting-new
+  pub fitting-pass : Fitting (length a) (attachments S p) (held (cleared n) d a c)
+  fitting-pass = fitting-as (length a) (attachments S p) (attachments S p) (newPass (held n d a c)) (held (cleared n) d a c) refl (held-cleared n d a c) fitting-new
 
-  end-fits : Fit (attachAll (attachments S p) (newPass (held n d a c)))
+  end-fits : Fit (length a) (attachAll (attachments S p) (newPass (held n d a c)))
   end-fits = fitting-new (attachments S p) [] (sym (append-nil (attachments S p)))
 
   -- What is recorded and replied is what an accepted pass leaves.
@@ -95,7 +102,7 @@ module _ (S : Session) (p : Pass) (n : Counts) (d a c : List ℕ) (few : n .disc
         spared = subst (λ (q : PassOutcome). Spared (q .counts) d d′ a a′ c c′) (sym e) (g .spared);
         within = subst (λ (q : PassOutcome). Within (q .counts)) (sym e) (record {
           discards = g .small;
-          actions = omega (arith, end-fits .actions, records-length 6 decodeAction (m .actions) a′, ap (λ (q : Lists). length (q .actions)) lists);
+          actions = omega (arith, few-actions, records-length 6 decodeAction (m .actions) a′, ap (λ (q : Lists). length (q .actions)) lists);
           clears = omega (arith, end-fits .clears, told);
         });
       }

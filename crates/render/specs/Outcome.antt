@@ -1,10 +1,10 @@
 -- What the structs of a pass check stand for in the definition, and what the check promises.
-use Prim.Native.Nat.{ℕ, _≤_}
+use Prim.Native.Nat.{ℕ, _+_, _*_, _≤_, min}
 use mathlib.Core.Path.{_≡_}
 use mathlib.Core.Bool.{false}
 use mathlib.Core.List.{List, map}
 use lib.ListN.{length}
-use Rattle.definition.specs.Sizes.{maxClears}
+use Rattle.definition.specs.Sizes.{maxDiscards, maxActions, maxClears}
 use Rattle.definition.specs.Session.{Pass, Session}
 use Rattle.definition.specs.Verdict.{fine, isFine}
 use Rattle.definition.specs.Attachments.{Attached, divergentOf, attachAll, attachments}
@@ -16,6 +16,17 @@ use Rattle.memory_init.specs.Lent.{held, Within, Spared}
 use Rattle.replies.specs.Records.{listed}
 use Rattle.render.specs.declared.PassReply.{PassReply}
 use Rattle.render.specs.declared.PassOutcome.{PassOutcome}
+
+-- A pass adds at most 90 actions: one an attachment, one for each of at most 64 + 9 discards.
+abbrev pub maxAdded : ℕ
+maxAdded = 90
+
+-- The lent lists are long enough for one pass more: 64 discards, 80 clears, and as many actions as there may be after it.
+pub record PassRoom (n : Counts) (d a c : List ℕ) : Type 0 where
+  pub held : n .discards ≤ maxDiscards
+  pub discards : 192 ≤ length d
+  pub actions : 6 * min maxActions (n .actions + maxAdded) ≤ length a
+  pub clears : 240 ≤ length c
 
 -- A reply of the definition as the struct that is handed back: its attachments in seventeen records, and how many clears it returns.
 abbrev pub replied : Reply → PassReply

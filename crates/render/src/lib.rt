@@ -34,8 +34,7 @@ ghost use Rattle.definition.specs.Attachments as At;
 ghost use Rattle.definition.specs.Pass.{newPass, roomVerdict};
 ghost use Rattle.memory_init.specs.Lent.{held};
 ghost use Rattle.attachments.specs.Attached.{PartOf};
-ghost use Rattle.recording.specs.Recorded.{Lent};
-ghost use Rattle.render.specs.Outcome.{refusedOutcome, acceptedOutcome, Accepted, Checked};
+ghost use Rattle.render.specs.Outcome.{PassRoom, refusedOutcome, acceptedOutcome, Accepted, Checked};
 
 // What a pass check replies. Of the list of clears, the first `clears` are returned.
 #[repr(C)]
@@ -145,7 +144,7 @@ fn accept(
     clears: &mut [u32],
     n: Counts,
 ) -> PassOutcome
-    requires { ⌜ PartOf (session (now s)) d (depthStencilPart (session (now s)) (session (now s) .pass pass)) × Lent n (now discards) (now actions) (now clears) × (session (now s) .pass pass .colors ≤ 8) × (isFine (roomVerdict (At.attachments (session (now s)) (session (now s) .pass pass)) (newPass (held n (now discards) (now actions) (now clears)))) ≡ true) ⌝ }
+    requires { ⌜ PartOf (session (now s)) d (depthStencilPart (session (now s)) (session (now s) .pass pass)) × PassRoom n (now discards) (now actions) (now clears) × (session (now s) .pass pass .colors ≤ 8) × (isFine (roomVerdict (At.attachments (session (now s)) (session (now s) .pass pass)) (newPass (held n (now discards) (now actions) (now clears)))) ≡ true) ⌝ }
     ensures { λ r. ⌜ Accepted (session (now (s .entry))) (At.attachments (session (now (s .entry))) (session (now (s .entry)) .pass pass)) seen n r (now (discards .entry)) (now (discards .exit)) (now (actions .entry)) (now (actions .exit)) (now (clears .entry)) (now (clears .exit)) ⌝ }
 {
     let cleared = Counts {
@@ -166,7 +165,7 @@ pub fn check_pass(
     clears: &mut [u32],
     n: Counts,
 ) -> PassOutcome
-    requires { ⌜ Lent n (now discards) (now actions) (now clears) ⌝ }
+    requires { ⌜ PassRoom n (now discards) (now actions) (now clears) ⌝ }
     ensures { λ r. ⌜ Checked (session (now (s .entry))) (session (now (s .entry)) .pass pass) n r (now (discards .entry)) (now (discards .exit)) (now (actions .entry)) (now (actions .exit)) (now (clears .entry)) (now (clears .exit)) ⌝ }
 {
     let judged = start(s, pass);

@@ -16,7 +16,7 @@ ghost use Rattle.definition.specs.Calls.{noEntries};
 ghost use Rattle.definition.specs.Program.{lines};
 ghost use Rattle.memory_init.specs.Lent.{Within};
 ghost use Rattle.lent.specs.Numbers.{numbersAt, putNumbers};
-ghost use Rattle.recording.specs.Recorded.{Lent};
+ghost use Rattle.render.specs.Outcome.{PassRoom};
 ghost use Rattle.rows.specs.Rows.{rowNumbers, rowBytes, rowsIn, rowOf, Next, Judged};
 
 // Numbers of a row.
@@ -75,7 +75,7 @@ fn put_pass(
     c: &mut [u32],
     n: Counts,
 ) -> Counts
-    requires { ⌜ Lent n (now d) (now a) (now c) × (Within n × ((rowBytes * k + rowBytes ≤ length (now rows)) × (k < passes))) ⌝ }
+    requires { ⌜ PassRoom n (now d) (now a) (now c) × (Within n × ((rowBytes * k + rowBytes ≤ length (now rows)) × (k < passes))) ⌝ }
     ensures { λ r. ⌜ Judged (session (now (s .entry))) k passes n r (now (rows .entry)) (now (rows .exit)) (now (d .entry)) (now (d .exit)) (now (a .entry)) (now (a .exit)) (now (c .entry)) (now (c .exit)) ⌝ }
 {
     let outcome = check_pass(s, k, d, a, c, n);

@@ -2,6 +2,7 @@
 use borrow.Author.Needs.{needs}
 use borrow.Author.Tests.{not-true, not-false}
 use mathlib.Core.List.{[]}
+use lib.ListN.{length}
 use Rattle.definition.specs.MemoryInit.{applyPlan}
 use Rattle.memory_init.specs.Lent.{held, initKind}
 use Rattle.course.proofs.Room.{Fit}
@@ -20,7 +21,7 @@ add-planned-requires : tie.Need-add-planned-requires
 add-planned-requires c κs =
     let c4 = c .before .before .before .before in
     let c10 = c4 .before .before .before .before .before .before in
-    (c10 .pre .1, by-present (λ q. Fitting q (held (c10 .args .n) (c10 .args .discards .now) (c10 .args .actions .now) (c10 .args .clears .now)) → Fit (applyPlan (c10 .args .d .planned .range) (initKind (c10 .args .d .planned .kind)) (c10 .args .d .planned .discards) (held (c10 .args .n) (c10 .args .discards .now) (c10 .args .actions .now) (c10 .args .clears .now)))) _ (c10 .args .d) _ (c10 .pre .0) (not-false _ (c4 .if1 .left)) (λ x e f. fitting-planned (c10 .args .d .planned) x [] _ e f) (c10 .pre .2))
+    (c10 .pre .1, by-present (λ q. Fitting (length (c10 .args .actions .now)) q (held (c10 .args .n) (c10 .args .discards .now) (c10 .args .actions .now) (c10 .args .clears .now)) → Fit (length (c10 .args .actions .now)) (applyPlan (c10 .args .d .planned .range) (initKind (c10 .args .d .planned .kind)) (c10 .args .d .planned .discards) (held (c10 .args .n) (c10 .args .discards .now) (c10 .args .actions .now) (c10 .args .clears .now)))) _ (c10 .args .d) _ (c10 .pre .0) (not-false _ (c4 .if1 .left)) (λ x e f. fitting-planned _ (c10 .args .d .planned) x [] _ e f) (c10 .pre .2))
 
 returns-2 : tie.Need-returns-2
 returns-2 c =

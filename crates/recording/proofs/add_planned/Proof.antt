@@ -8,7 +8,7 @@ returns : tie.Need-returns
 returns c =
     let c6 = c .before .before .before .before .before .before in
     let c14 = c6 .before .before .before .before .before .before .before .before in
-    λ x e. recorded-attach (c14 .args .p) x _ _ _ _ _ _ _ _ e (c14 .pre .0) (c14 .pre .1) (c6 .add-pass-texture-init-actions .ensures)
+    λ x e. recorded-attach (c14 .args .p) x _ _ _ _ _ _ _ _ _ e (c14 .pre .0) (c14 .pre .1) (c6 .add-pass-texture-init-actions .ensures)
 
 pub add-planned-spec : {M : Type 1} → statement M
 add-planned-spec =

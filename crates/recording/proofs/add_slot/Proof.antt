@@ -3,7 +3,7 @@ use borrow.Author.Needs.{needs}
 use mathlib.Core.Path.{sym, _∙_}
 use mathlib.Core.List.{[], _∷_}
 use Rattle.attachments.proofs.Slots.{slot-empty, slot-alone, slot-resolving}
-use Rattle.recording.proofs.Recorded.{recorded-none, recorded-then, recorded-as, lent-after, fitting-planned, fitting-color, fitting-resolve}
+use Rattle.recording.proofs.Recorded.{recorded-none, recorded-then, recorded-as, lent-after, fitting-kept, fitting-planned, fitting-color, fitting-resolve}
 use Rattle.recording.proofs.add_slot.Statement.{statement}
 use Rattle.recording.proofs.add_slot.Tie as tie
 
@@ -17,7 +17,7 @@ add-planned-requires c κs =
     let c4 = c .before .before .before .before in
     let c5 = c4 .before in
     let c10 = c5 .before .before .before .before .before in
-    (c10 .pre .0, fitting-planned (c .color-planned .result) _ _ _ (c .color-planned .ensures) (fitting-color _ (c10 .args .c) _ (sym (c5 .is-none .ensures) ∙ c4 .if1 .left) (c10 .pre .1)))
+    (c10 .pre .0, fitting-planned _ (c .color-planned .result) _ _ _ (c .color-planned .ensures) (fitting-color _ _ (c10 .args .c) _ (sym (c5 .is-none .ensures) ∙ c4 .if1 .left) (c10 .pre .1)))
 
 returns-2 : tie.Need-returns-2
 returns-2 c =
@@ -37,8 +37,8 @@ add-planned-requires-2 c κs =
     let c18 = c17 .before in
     let c23 = c18 .before .before .before .before .before in
     let first = c12 .add-planned .ensures _ (c13 .color-planned .ensures) in (
-      lent-after _ _ _ _ _ _ _ _ _ (c23 .pre .0) first (c12 .add-planned .kept .0) (c12 .add-planned .kept .1 .0) (c12 .add-planned .kept .1 .1 .0),
-      fitting-planned (c .resolve-planned .result) _ [] _ (c .resolve-planned .ensures) (fitting-resolve _ (c23 .args .c) _ _ (sym (c18 .is-none .ensures) ∙ c17 .if1 .left) (sym (c5 .is-none2 .ensures) ∙ c4 .if2 .left) (first .lists) (c23 .pre .1)),
+      lent-after _ _ _ _ _ _ _ _ _ (c23 .pre .0) first (c12 .add-planned .kept .0) (c12 .add-planned .kept .1 .1 .0),
+      fitting-planned _ (c .resolve-planned .result) _ [] _ (c .resolve-planned .ensures) (fitting-kept _ _ _ _ (c12 .add-planned .kept .1 .0) (fitting-resolve _ _ (c23 .args .c) _ _ (sym (c18 .is-none .ensures) ∙ c17 .if1 .left) (sym (c5 .is-none2 .ensures) ∙ c4 .if2 .left) (first .lists) (c23 .pre .1))),
     )
 
 returns-3 : tie.Need-returns-3

@@ -8,7 +8,7 @@ use Rattle.definition.specs.Session.{session}
 use Rattle.definition.specs.Attachments.{slotParts}
 use Rattle.laws.proofs.Folds.{parts-none}
 use Rattle.recording.specs.Recorded.{Recorded}
-use Rattle.recording.proofs.Recorded.{recorded-none, recorded-as, recorded-slot, lent-after, fitting-slot}
+use Rattle.recording.proofs.Recorded.{recorded-none, recorded-as, recorded-slot, lent-after, fitting-kept, fitting-slot}
 use Rattle.recording.proofs.add_slots.Statement.{statement}
 use Rattle.recording.proofs.add_slots.Tie as tie
 
@@ -27,8 +27,10 @@ add-slot-requires : tie.Need-add-slot-requires Inv-loop μ-loop
 add-slot-requires c κs =
     let c4 = c .before .before .before .before in
     let c5 = c4 .before in
-    let c10 = c5 .before .before .before .before .before in
-    (lent-after _ _ _ _ _ _ _ _ _ (c10 .pre .0) (c5 .loop .inv .0) (c5 .loop .inv .1) (c5 .loop .inv .2) (c5 .loop .inv .3), fitting-slot _ _ _ _ (c5 .loop .k) (c10 .args .slots) (c .before .before .before .slot .result) (c4 .loop-test .taken) (c10 .pre .1) (c .before .before .before .slot .ensures) (c5 .loop .inv .0 .lists))
+    let c10 = c5 .before .before .before .before .before in (
+      lent-after _ _ _ _ _ _ _ _ _ (c10 .pre .0) (c5 .loop .inv .0) (c5 .loop .inv .1) (c5 .loop .inv .3),
+      fitting-kept _ _ _ _ (c5 .loop .inv .2) (fitting-slot _ _ _ _ _ (c5 .loop .k) (c10 .args .slots) (c .before .before .before .slot .result) (c4 .loop-test .taken) (c10 .pre .1) (c .before .before .before .slot .ensures) (c5 .loop .inv .0 .lists)),
+    )
 
 loop-again : tie.Need-loop-again Inv-loop μ-loop
 loop-again c =
