@@ -1,14 +1,16 @@
 -- What is written is read back, and what stands elsewhere stays.
-use mathlib.Core.Path.{_≡_, refl, sym, ap₂, _∙_}
+use mathlib.Core.Path.{_≡_, refl, sym, ap, ap₂, _∙_}
 use mathlib.Core.Logic.{_≢_}
-use mathlib.Core.List.{List, [], _∷_, _++_}
+use mathlib.Core.List.{List, [], _∷_, _++_, append-assoc, append-nil}
 use mathlib.Core.Bool.{Bool, true, false, cond}
 use Prim.Native.Nat.{ℕ, zero, suc, _+_, _*_, _/_, _%_, _^_, _≤_, _<_}
+use native.Mathlib.Nat.{add-zero, add-suc, not-suc-le-zero}
 use native.Mathlib.Omega.{arith}
 use lib.Dec.{leb}
 use lib.ListN.{length, take, drop, getD, length-append}
-use lib.Seq.{getD-set-other, drop-set-lt, take-suc, take-all}
+use lib.Seq.{getD-set-other, getD-at, getD-take, take-at, drop-set-lt, take-suc, take-all}
 use Rattle.definition.specs.Bytes.{u32At}
+use Rattle.laws.proofs.Tests.{by-order}
 use Rattle.wire.specs.Writing.{putBytes, putNumber}
 use Rattle.wire.proofs.Writing.{put-length, put-read}
 use Rattle.lent.specs.Numbers.{numbersAt, putNumbers}
@@ -67,6 +69,18 @@ u32-before s at n j h =
     let e : (k : ℕ) → k < 4 → getD (putNumber 4 s at n) (j + k) 0 ≡ getD s (j + k) 0 = λ k l. number-stays s at n 4 (j + k) (λ i g z. omega arith) in
     simp (number-stays s at n 4 j (λ i g z. omega arith), e 1 (omega arith), e 2 (omega arith), e 3 (omega arith))
 
+-- And so does one that starts where it ends.
+u32-after : (s : List ℕ) (at n j : ℕ) → at + 4 ≤ j → u32At (putNumber 4 s at n) j ≡ u32At s j
+unfolding u32At
+u32-after s at n j h =
+    let e : (k : ℕ) → k < 4 → getD (putNumber 4 s at n) (j + k) 0 ≡ getD s (j + k) 0 = λ k l. number-stays s at n 4 (j + k) (λ i g z. omega arith) in
+    simp (number-stays s at n 4 j (λ i g z. omega arith), e 1 (omega arith), e 2 (omega arith), e 3 (omega arith))
+
+numbers-after : (s : List ℕ) (at n j m : ℕ) → at + 4 ≤ j → numbersAt (putNumber 4 s at n) j m ≡ numbersAt s j m
+unfolding numbersAt
+numbers-after s at n j zero h = refl
+numbers-after s at n j (suc m) h = ap₂ (λ l x. l ++ (x ∷ [])) (numbers-after s at n j m h) (u32-after s at n (j + 4 * m) (omega arith))
+
 -- So the numbers before it, and any number before the first, stay.
 numbers-before : (s : List ℕ) (at at′ n m : ℕ) → at + 4 * m ≤ at′ → numbersAt (putNumber 4 s at′ n) at m ≡ numbersAt s at m
 unfolding numbersAt
@@ -111,3 +125,30 @@ pub numbers-kept : (b : List ℕ) (at : ℕ) (xs : List ℕ) (n j m : ℕ) → j
 unfolding numbersAt
 numbers-kept b at xs n j zero h = refl
 numbers-kept b at xs n j (suc m) h = λ q. numbers-kept b at xs n j m (omega arith) q ++ (number-kept b at xs n (j + 4 * m) (omega arith) q ∷ [])
+
+-- Numbers one after the other are the first of them and then the others.
+numbers-append : (b : List ℕ) (at m n : ℕ) → numbersAt b at (m + n) ≡ numbersAt b at m ++ numbersAt b (at + 4 * m) n
+unfolding numbersAt
+numbers-append b at m zero = ap (numbersAt b at) (add-zero m) ∙ sym (append-nil (numbersAt b at m))
+numbers-append b at m (suc n) =
+    let place : at + 4 * (m + n) ≡ at + 4 * m + 4 * n = omega arith in
+    ap (numbersAt b at) (add-suc m n)
+    ∙ ap₂ (λ l (q : ℕ). l ++ (u32At b q ∷ [])) (numbers-append b at m n) place
+    ∙ append-assoc (numbersAt b at m) (numbersAt b (at + 4 * m) n) (u32At b (at + 4 * m + 4 * n) ∷ [])
+
+-- One of them, where it stands.
+pub number-of : (b : List ℕ) (at n j : ℕ) → j < n → getD (numbersAt b at n) j 0 ≡ u32At b (at + 4 * j)
+unfolding numbersAt
+number-of b at zero j h = absurd (not-suc-le-zero h)
+number-of b at (suc n) j h =
+    let first : List ℕ = numbersAt b at n in
+    let last : List ℕ = u32At b (at + 4 * n) ∷ [] in
+    by-order {P = getD (first ++ last) j 0 ≡ u32At b (at + 4 * j)} n j
+    (λ g. let e : n ≡ j = omega arith in getD-at first _ [] 0 j (length-numbers b at n ∙ e) ∙ ap (λ (q : ℕ). u32At b (at + 4 * q)) e)
+    (λ g. sym (getD-take n (first ++ last) j 0 g) ∙ ap (λ l. getD l j 0) (take-at first last n (length-numbers b at n)) ∙ number-of b at n j g)
+
+-- After the first number is written, and others behind h that follow it, these stand behind the h.
+pub numbers-behind : (b xs ys : List ℕ) (x h n : ℕ) → numbersAt (putNumbers (putNumber 4 b 0 x) (4 + 4 * h) xs n) (4 + 4 * h) n ≡ ys
+    → numbersAt (putNumbers (putNumber 4 b 0 x) (4 + 4 * h) xs n) 4 (h + n) ≡ numbersAt b 4 h ++ ys
+numbers-behind b xs ys x h n e =
+    numbers-append _ 4 h n ∙ ap₂ _++_ (numbers-kept (putNumber 4 b 0 x) (4 + 4 * h) xs n 4 h (omega arith) ∙ numbers-after b 0 x 4 h (omega arith)) e

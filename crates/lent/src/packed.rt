@@ -2,36 +2,30 @@
 use crate::read_numbers;
 use crate::write_numbers;
 use wire::put_u32;
-use wire::u32_at;
 ghost use mathlib.Core.Path.{_≡_};
-ghost use Prim.Native.Nat.{_*_, _≤_, _<_};
+ghost use mathlib.Core.List.{_++_};
+ghost use Prim.Native.Nat.{_+_, _*_, _≤_, _<_};
 ghost use lib.ListN.{length, take, drop};
 ghost use Rattle.lent.specs.Numbers.{numbersAt};
 ghost use Rattle.lent.specs.Packed.{listBytes, countIn};
 
-// The count of a list, and its numbers where the count is within the room.
-pub fn unpack(b: &[u8], stride: usize, most: usize, out: &mut [u32]) -> usize
-    requires { ⌜ (listBytes stride most ≤ length (now b)) × (stride * most ≤ length (now out)) ⌝ }
-    ensures { λ r. ⌜ r ≡ countIn (now (b .entry)) ⌝ }
-    ensures { λ r. ⌜ (r ≤ most → take (stride * r) (now (out .exit)) ≡ numbersAt (now (b .entry)) 4 (stride * r)) ⌝ }
+// The numbers of the first n records of a list.
+pub fn unpack(b: &[u8], stride: usize, n: usize, out: &mut [u32])
+    requires { ⌜ (listBytes stride n ≤ length (now b)) × (stride * n ≤ length (now out)) ⌝ }
+    ensures { λ _. ⌜ take (stride * n) (now (out .exit)) ≡ numbersAt (now (b .entry)) 4 (stride * n) ⌝ }
 {
-    let n = u32_at(b, 0) as usize;
-    if n > most {
-        return n;
-    }
-    let numbers = stride * n;
-    read_numbers(b, 4, numbers, out);
-    n
+    read_numbers(b, 4, stride * n, out);
 }
 
-// A count and so many records go into a list; the bytes past them stay.
-pub fn pack(b: &mut [u8], stride: usize, n: usize, xs: &[u32])
-    requires { ⌜ (listBytes stride n ≤ length (now b)) × ((stride * n ≤ length (now xs)) × (n < 4294967296)) ⌝ }
-    ensures { λ _. ⌜ countIn (now (b .exit)) ≡ n ⌝ }
-    ensures { λ _. ⌜ numbersAt (now (b .exit)) 4 (stride * n) ≡ take (stride * n) (now (xs .entry)) ⌝ }
-    ensures { λ _. ⌜ drop (listBytes stride n) (now (b .exit)) ≡ drop (listBytes stride n) (now (b .entry)) ⌝ }
+// So many records go behind those that a list holds, and the count becomes that of all; every other byte stays.
+pub fn pack(b: &mut [u8], stride: usize, held: usize, n: usize, xs: &[u32])
+    requires { ⌜ (listBytes stride (held + n) ≤ length (now b)) × ((stride * n ≤ length (now xs)) × (held + n < 4294967296)) ⌝ }
+    ensures { λ _. ⌜ countIn (now (b .exit)) ≡ held + n ⌝ }
+    ensures { λ _. ⌜ numbersAt (now (b .exit)) 4 (stride * (held + n)) ≡ numbersAt (now (b .entry)) 4 (stride * held) ++ take (stride * n) (now (xs .entry)) ⌝ }
+    ensures { λ _. ⌜ drop (listBytes stride (held + n)) (now (b .exit)) ≡ drop (listBytes stride (held + n)) (now (b .entry)) ⌝ }
 {
-    put_u32(b, 0, n as u32);
+    put_u32(b, 0, (held + n) as u32);
+    let before = stride * held;
     let numbers = stride * n;
-    write_numbers(b, 4, numbers, xs);
+    write_numbers(b, 4 + 4 * before, numbers, xs);
 }

@@ -1,5 +1,5 @@
 -- Each test of a list is the test of one entry more.
-use Prim.Native.Nat.{ℕ, _+_, _-_, _≤_, _<_}
+use Prim.Native.Nat.{ℕ, _+_, _-_, _*_, _≤_, _<_}
 use native.Mathlib.Omega.{arith}
 use native.Mathlib.Numerals.{add-one}
 use mathlib.Core.Path.{_≡_, refl, sym, ap, _∙_}
@@ -21,7 +21,9 @@ use Rattle.lists.proofs.Records.{records-suc, records-length}
 use Rattle.records.specs.Lent.{decodeSurface, decodeAction, surfaces, surfaceIn, actions, actionIn}
 use Rattle.memory_init.specs.declared.Counts.{Counts}
 use Rattle.memory_init.specs.Lent.{held, Within}
-use Rattle.lent_right.specs.Lent.{countsFit, right}
+use Rattle.lent.specs.Numbers.{numbersAt}
+use Rattle.lent.specs.Packed.{numbersIn}
+use Rattle.lent_right.specs.Lent.{countsFit, countsIn, right}
 
 -- A test of a list that is one of each entry: of the records of a flat list, one after another.
 module _ {A : Type 0} (k : ℕ) (decode : List ℕ → A) (all : List A → Bool) (one : A → Bool) (more : (xs : List A) (x : A) → all (xs ++ (x ∷ [])) ≡ (all xs && one x)) (l : List ℕ) where
@@ -99,6 +101,12 @@ module _ (S : Session) (n : Counts) (d a c status : List ℕ) where
   -- The tests of the rest, where the counts are in range.
   pub right-rest : countsFit n ≡ true → tested true ≡ right S n d a c status
   right-rest h = tested-right true h
+
+-- Numbers as far as the counts reach, where these are the lists' own.
+pub right-packed : (S : Session) (n : Counts) (d a c status : List ℕ) → n ≡ countsIn d a c
+    → right S n (numbersAt d 4 (3 * n .discards)) (numbersAt a 4 (6 * n .actions)) (numbersAt c 4 (3 * n .clears)) status ≡ right S n (numbersIn 3 d) (numbersIn 6 a) (numbersIn 3 c) status
+right-packed S n d a c status e =
+    λ q. right S n (numbersAt d 4 (3 * e q .discards)) (numbersAt a 4 (6 * e q .actions)) (numbersAt c 4 (3 * e q .clears)) status
 
 -- Counts in range, as facts on numbers.
 pub counts-in : (n : Counts) → countsFit n ≡ true → Within n

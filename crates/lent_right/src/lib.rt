@@ -1,23 +1,26 @@
 // Number 6: whether the counts, the records and the status bytes that a caller lends are within range.
-// Each test is the definition's, of the lists that the lent numbers stand for.
+// Each test is the definition's, of the lists that the lent bytes stand for, and reads a record where it stands in them.
 use definition::Range;
 use definition::Surface;
 use memory_init::Counts;
-use records::range_at;
-use records::surface_at;
+use records::layers_of;
 use session::derived::array_layers;
 use session::texture;
 use session::texture_count;
 use surfaces::surfaces_before;
+use wire::u32_at;
+use wire::u32_inside;
 ghost use mathlib.Core.Path.{_≡_};
-ghost use Prim.Native.Nat.{_+_, _*_, _≤_};
+ghost use Prim.Native.Nat.{ℕ, _+_, _*_, _≤_, _<_};
 ghost use lib.Dec.{leb};
 ghost use lib.ListN.{length};
 ghost use Rattle.definition.specs.Session.{session, surfaceCount};
 ghost use Rattle.definition.specs.Sizes.{maxSurfaces};
 ghost use Rattle.definition.specs.Calls.{surfaceRight, rangeRight, surfacesRight, actionsRight, bytesRight};
-ghost use Rattle.records.specs.Lent.{surfaces, actions};
-ghost use Rattle.lent_right.specs.Lent.{countsFit, right, Long};
+ghost use Rattle.records.specs.Lent.{surfaces, actions, surfaceIn, actionIn};
+ghost use Rattle.lent.specs.Numbers.{numbersAt};
+ghost use Rattle.lent.specs.Packed.{listBytes, numbersIn};
+ghost use Rattle.lent_right.specs.Lent.{countsFit, countsIn, right, Long};
 
 // The session has the surface.
 pub fn surface_right(s: &[u8], x: Surface) -> bool
@@ -47,29 +50,57 @@ pub fn range_right(s: &[u8], x: Range) -> bool
         & ends_by(x.layer, x.layers, layers)
 }
 
+// The surface at place i of a lent list, which lies inside.
+pub fn surface_in(b: &[u8], i: usize) -> Surface
+    requires { ⌜ listBytes 3 (i + 1) ≤ length (now b) ⌝ }
+    ensures { λ r. ⌜ ((n : ℕ) → i < n → r ≡ surfaceIn i (numbersAt (now (b .entry)) 4 (3 * n))) ⌝ }
+{
+    let at = 4 + 12 * i;
+    Surface {
+        texture: u32_inside(b, at),
+        mip: u32_inside(b, at + 4),
+        layer: u32_inside(b, at + 8),
+    }
+}
+
+// The range of the action at place i of a lent list, which lies inside.
+pub fn range_in(b: &[u8], i: usize) -> Range
+    requires { ⌜ listBytes 6 (i + 1) ≤ length (now b) ⌝ }
+    ensures { λ r. ⌜ ((n : ℕ) → i < n → r ≡ actionIn i (numbersAt (now (b .entry)) 4 (6 * n)) .range) ⌝ }
+{
+    let at = 4 + 24 * i;
+    Range {
+        texture: u32_inside(b, at),
+        mip: u32_inside(b, at + 4),
+        mips: u32_inside(b, at + 8),
+        layer: u32_inside(b, at + 12),
+        layers: layers_of(u32_inside(b, at + 20), u32_inside(b, at + 16)),
+    }
+}
+
 // The first n surfaces of a lent list.
-pub fn surfaces_right(s: &[u8], l: &[u32], n: usize) -> bool
-    requires { ⌜ 3 * n ≤ length (now l) ⌝ }
-    ensures { λ r. ⌜ r ≡ surfacesRight (session (now (s .entry))) (surfaces n (now (l .entry))) ⌝ }
+pub fn surfaces_right(s: &[u8], b: &[u8], n: usize) -> bool
+    requires { ⌜ listBytes 3 n ≤ length (now b) ⌝ }
+    ensures { λ r. ⌜ r ≡ surfacesRight (session (now (s .entry))) (surfaces n (numbersAt (now (b .entry)) 4 (3 * n))) ⌝ }
 {
     let mut ok = true;
     let mut i: usize = 0;
     while i < n {
-        ok = ok & surface_right(s, surface_at(l, i));
+        ok = ok & surface_right(s, surface_in(b, i));
         i += 1;
     }
     ok
 }
 
 // The ranges of the first n actions of a lent list.
-pub fn actions_right(s: &[u8], l: &[u32], n: usize) -> bool
-    requires { ⌜ 6 * n ≤ length (now l) ⌝ }
-    ensures { λ r. ⌜ r ≡ actionsRight (session (now (s .entry))) (actions n (now (l .entry))) ⌝ }
+pub fn actions_right(s: &[u8], b: &[u8], n: usize) -> bool
+    requires { ⌜ listBytes 6 n ≤ length (now b) ⌝ }
+    ensures { λ r. ⌜ r ≡ actionsRight (session (now (s .entry))) (actions n (numbersAt (now (b .entry)) 4 (6 * n))) ⌝ }
 {
     let mut ok = true;
     let mut i: usize = 0;
     while i < n {
-        ok = ok & range_right(s, range_at(l, i));
+        ok = ok & range_right(s, range_in(b, i));
         i += 1;
     }
     ok
@@ -87,6 +118,17 @@ pub fn bytes_right(status: &[u8], n: usize) -> bool
         i += 1;
     }
     ok
+}
+
+// The counts of three lent lists.
+pub fn counts_of(discards: &[u8], actions: &[u8], clears: &[u8]) -> Counts
+    ensures { λ r. ⌜ r ≡ countsIn (now (discards .entry)) (now (actions .entry)) (now (clears .entry)) ⌝ }
+{
+    Counts {
+        discards: u32_at(discards, 0) as usize,
+        actions: u32_at(actions, 0) as usize,
+        clears: u32_at(clears, 0) as usize,
+    }
 }
 
 // The counts are within the room of the lists.
@@ -107,14 +149,15 @@ pub fn surface_count(s: &[u8]) -> usize
 // Everything that is lent. Records are looked at where the counts are within the room.
 pub fn lent_right(
     s: &[u8],
-    discards: &[u32],
-    actions: &[u32],
-    clears: &[u32],
+    discards: &[u8],
+    actions: &[u8],
+    clears: &[u8],
     n: Counts,
     status: &[u8],
 ) -> bool
-    requires { ⌜ Long (session (now s)) (now discards) (now actions) (now clears) (now status) ⌝ }
-    ensures { λ r. ⌜ r ≡ right (session (now (s .entry))) n (now (discards .entry)) (now (actions .entry)) (now (clears .entry)) (now (status .entry)) ⌝ }
+    requires { ⌜ n ≡ countsIn (now discards) (now actions) (now clears) ⌝ }
+    requires { ⌜ Long (now discards) (now actions) (now clears) (now status) × (surfaceCount (session (now s)) ≤ maxSurfaces) ⌝ }
+    ensures { λ r. ⌜ r ≡ right (session (now (s .entry))) n (numbersIn 3 (now (discards .entry))) (numbersIn 6 (now (actions .entry))) (numbersIn 3 (now (clears .entry))) (now (status .entry)) ⌝ }
 {
     if !counts_right(n) {
         return false;

@@ -1,3 +1,3 @@
 -- The root of what this crate means.
 pub mod Lent
-pub mod Unpacked
+pub mod Judged

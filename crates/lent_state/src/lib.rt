@@ -1,16 +1,15 @@
-// What a caller lends as bytes, unpacked into numbers and tested: number 6 after the session's own refusal.
+// What a caller lends as bytes, tested, and what a call leaves in it: number 6 after the session's own refusal.
 use lent::packed::pack;
-use lent::packed::unpack;
+use lent_right::counts_of;
 use lent_right::lent_right;
 use memory_init::Counts;
 ghost use mathlib.Core.Path.{_≡_};
 ghost use mathlib.Core.Bool.{false};
-ghost use Prim.Native.Nat.{_≤_};
+ghost use Prim.Native.Nat.{_+_, _*_, _≤_};
 ghost use lib.ListN.{length};
 ghost use Rattle.definition.specs.Readable.{sessionRefusal};
 ghost use Rattle.lent_state.specs.Lent.{discardBytes, actionBytes, clearBytes, short};
-ghost use Rattle.memory_init.specs.Lent.{Within};
-ghost use Rattle.lent_state.specs.Unpacked.{Unpacks, Packed};
+ghost use Rattle.lent_state.specs.Judged.{Judged, Packed};
 
 // Bytes of the lent discards: a count and 64 records of three numbers.
 pub const DISCARD_BYTES: usize = 772;
@@ -25,7 +24,7 @@ pub const CLEAR_BYTES: usize = 964;
 pub const STATUS_BYTES: usize = 4096;
 
 // How many entries each list has, and whether all that is lent is in range.
-pub struct Unpacked {
+pub struct LentCounts {
     pub right: bool,
     pub counts: Counts,
 }
@@ -40,49 +39,43 @@ pub fn is_short(discards: &[u8], actions: &[u8], clears: &[u8], status: &[u8]) -
         | (status.len() < STATUS_BYTES)
 }
 
-// Unpacks the three lists, and tests them and the status bytes.
-pub fn unpack_lent(
+// Tests the three lists, the records where they stand, and the status bytes.
+pub fn judge_lent(
     session: &[u8],
     discards: &[u8],
     actions: &[u8],
     clears: &[u8],
     status: &[u8],
-    d: &mut [u32],
-    a: &mut [u32],
-    c: &mut [u32],
-) -> Unpacked
+) -> LentCounts
     requires { ⌜ (short (now discards) (now actions) (now clears) (now status) ≡ false) × (sessionRefusal (now session) ≡ 0) ⌝ }
-    requires { ⌜ (192 ≤ length (now d)) × ((3072 ≤ length (now a)) × (240 ≤ length (now c))) ⌝ }
-    ensures { λ r. ⌜ Unpacks (now (session .entry)) (now (discards .entry)) (now (actions .entry)) (now (clears .entry)) (now (status .entry)) r (now (d .exit)) (now (a .exit)) (now (c .exit)) ⌝ }
+    ensures { λ r. ⌜ Judged (now (session .entry)) (now (discards .entry)) (now (actions .entry)) (now (clears .entry)) (now (status .entry)) r ⌝ }
 {
-    let n = Counts {
-        discards: unpack(discards, 3, 64, d),
-        actions: unpack(actions, 6, 512, a),
-        clears: unpack(clears, 3, 80, c),
-    };
-    Unpacked {
-        right: lent_right(session, d, a, c, n, status),
+    let n = counts_of(discards, actions, clears);
+    LentCounts {
+        right: lent_right(session, discards, actions, clears, n, status),
         counts: n,
     }
 }
 
-// Packs the three lists, each over its buffer.
+// Packs the discards and the clears, each over its buffer, and the actions behind those that theirs holds.
 pub fn pack_lent(
     discards: &mut [u8],
     actions: &mut [u8],
     clears: &mut [u8],
+    held: usize,
     n: Counts,
     d: &[u32],
     a: &[u32],
     c: &[u32],
 )
-    requires { ⌜ Within n × ((discardBytes ≤ length (now discards)) × ((actionBytes ≤ length (now actions)) × (clearBytes ≤ length (now clears)))) ⌝ }
-    requires { ⌜ (192 ≤ length (now d)) × ((3072 ≤ length (now a)) × (240 ≤ length (now c))) ⌝ }
-    ensures { λ _. ⌜ Packed 3 (n .discards) (now (d .entry)) (now (discards .entry)) (now (discards .exit)) ⌝ }
-    ensures { λ _. ⌜ Packed 6 (n .actions) (now (a .entry)) (now (actions .entry)) (now (actions .exit)) ⌝ }
-    ensures { λ _. ⌜ Packed 3 (n .clears) (now (c .entry)) (now (clears .entry)) (now (clears .exit)) ⌝ }
+    requires { ⌜ (n .discards ≤ 64) × ((held + n .actions ≤ 512) × (n .clears ≤ 80)) ⌝ }
+    requires { ⌜ (discardBytes ≤ length (now discards)) × ((actionBytes ≤ length (now actions)) × (clearBytes ≤ length (now clears))) ⌝ }
+    requires { ⌜ (3 * n .discards ≤ length (now d)) × ((6 * n .actions ≤ length (now a)) × (3 * n .clears ≤ length (now c))) ⌝ }
+    ensures { λ _. ⌜ Packed 3 0 (n .discards) (now (d .entry)) (now (discards .entry)) (now (discards .exit)) ⌝ }
+    ensures { λ _. ⌜ Packed 6 held (n .actions) (now (a .entry)) (now (actions .entry)) (now (actions .exit)) ⌝ }
+    ensures { λ _. ⌜ Packed 3 0 (n .clears) (now (c .entry)) (now (clears .entry)) (now (clears .exit)) ⌝ }
 {
-    pack(discards, 3, n.discards, d);
-    pack(actions, 6, n.actions, a);
-    pack(clears, 3, n.clears, c);
+    pack(discards, 3, 0, n.discards, d);
+    pack(actions, 6, held, n.actions, a);
+    pack(clears, 3, 0, n.clears, c);
 }

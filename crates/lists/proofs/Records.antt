@@ -1,13 +1,13 @@
 -- What a run of stores does to the records of a flat list: it writes the record that it covers, and leaves those before and the numbers after.
 use Prim.Native.Nat.{ℕ, zero, suc, _+_, _-_, _*_, _≤_, _<_}
-use native.Mathlib.Nat.{zero-add, suc-add, mul-suc, mul-le-mul-left}
+use native.Mathlib.Nat.{add-zero, add-suc, zero-add, suc-add, mul-suc, mul-le-mul-left}
 use native.Mathlib.Omega.{arith}
 use native.Mathlib.Numerals.{add-one}
 use mathlib.Core.Path.{_≡_, refl, sym, ap, _∙_}
 use mathlib.Core.Bool.{Bool}
-use mathlib.Core.List.{List, [], _∷_, _++_, append-assoc}
+use mathlib.Core.List.{List, [], _∷_, _++_, append-assoc, append-nil}
 use lib.ListN.{length, take, drop, getD, length-append}
-use lib.Seq.{take-nil, take-take, drop-drop, take-at, drop-at, length-take-le, sets, length-sets, sets-eq, getD-take, getD-drop}
+use lib.Seq.{take-nil, take-take, take-append-le, drop-append-add, drop-drop, take-at, drop-at, length-take-le, sets, length-sets, sets-eq, getD-take, getD-drop}
 use Rattle.definition.specs.MemoryInit.{retain}
 use Rattle.lists.specs.Records.{recordAt, records, Appended}
 
@@ -57,6 +57,20 @@ module _ {A : Type 0} (k : ℕ) (decode : List ℕ → A) where
       let e′ : take (k * n + k) l′ ≡ take (k * n + k) l = ap (λ (q : ℕ). take q l′) (sym (mul-suc k n)) ∙ e ∙ ap (λ (q : ℕ). take q l) (mul-suc k n) in
       let here : take k (drop (k * n) l′) ≡ take k (drop (k * n) l) = sym (drop-take (k * n) k l′) ∙ ap (drop (k * n)) e′ ∙ drop-take (k * n) k l in
       λ q. records-same n l l′ (take-less (k * n) (k * n + k) l l′ (omega arith) e′) q ++ (decode (here q) ∷ [])
+
+  -- The records of two lists one after the other, where the first is that of h records.
+  pub records-append : (h n : ℕ) (p l : List ℕ) → length p ≡ k * h → records k decode (h + n) (p ++ l) ≡ records k decode h p ++ records k decode n l
+  unfolding records recordAt
+  records-append h zero p l e =
+      ap (λ (q : ℕ). records k decode q (p ++ l)) (add-zero h)
+      ∙ records-same h p (p ++ l) (take-append-le (k * h) p l (omega (arith, e)))
+      ∙ sym (append-nil (records k decode h p))
+  records-append h (suc n) p l e =
+      let place : k * (h + n) ≡ length p + k * n = omega (arith, e) in
+      let here : drop (k * (h + n)) (p ++ l) ≡ drop (k * n) l = ap (λ (q : ℕ). drop q (p ++ l)) place ∙ drop-append-add p l (k * n) in
+      ap (λ (q : ℕ). records k decode q (p ++ l)) (add-suc h n)
+      ∙ (λ q. records-append h n p l e q ++ (decode (take k (here q)) ∷ []))
+      ∙ append-assoc (records k decode h p) (records k decode n l) (recordAt k decode n l ∷ [])
 
   -- Where records end up to a place, there they end up to every later one.
   pub past-more : (a b : ℕ) (l l′ : List ℕ) → a ≤ b → drop (k * a) l′ ≡ drop (k * a) l → drop (k * b) l′ ≡ drop (k * b) l

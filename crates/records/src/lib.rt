@@ -110,7 +110,7 @@ pub fn put_action(l: &mut [u32], i: usize, range: Range, kind: MemoryInitKind)
 }
 
 // The layers of an action, by its kind's number.
-fn layers_of(kind: u32, layers: u32) -> u32
+pub fn layers_of(kind: u32, layers: u32) -> u32
     ensures { λ r. ⌜ r ≡ layersOf kind layers ⌝ }
 {
     if kind <= 1 { layers } else { 0 }

@@ -49,7 +49,7 @@ fn u32_across_end(s: &[u8], at: usize) -> u32
 }
 
 // Four bytes that lie inside, the lowest first.
-fn u32_inside(s: &[u8], at: usize) -> u32
+pub fn u32_inside(s: &[u8], at: usize) -> u32
     requires { ⌜ at + 4 ≤ length (now s) ⌝ }
     ensures { λ r. ⌜ r ≡ u32At (now (s .entry)) at ⌝ }
 {
