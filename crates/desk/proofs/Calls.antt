@@ -20,8 +20,8 @@ use Rattle.wire.proofs.Writing.{put-read}
 use Rattle.lent.specs.Numbers.{numbersAt}
 use Rattle.lent.specs.Packed.{countIn}
 use Rattle.lent_state.specs.Lent.{surfacesIn, actionsIn, stateIn, short}
-use Rattle.lent_state.specs.Unpacked.{rightIn}
-use Rattle.desk.specs.Entry.{refusedCall, entry}
+use Rattle.lent_state.specs.Judged.{rightIn}
+use Rattle.desk.specs.Entry.{refusedCall, entry, Stepped}
 
 pub lent-accepts : (s : List ℕ) (k : Call) (d a c status : List ℕ) → rightIn s d a c status ≡ true → call (session s) k (stateIn d a c status) ≡ called (session s) k (stateIn d a c status)
 unfolding call
@@ -39,10 +39,6 @@ none-listed b h =
     (ap (λ n. surfaces n (numbersAt (putNumber 4 b 0 0) 4 (3 * n))) e, ap (λ n. actions n (numbersAt (putNumber 4 b 0 0) 4 (6 * n))) e)
 
 -- ── a call at an entry point
-
--- What a C function promises of a call whose step is t: the reply reads the answer, what is lent then holds the state, and the rest.
-abbrev pub Stepped : {X : Type 0} → (Answer → X) → Step → X → State → Type 0 → Type 0
-Stepped read t r σ Rest = (r ≡ read (t .answer)) × ((σ ≡ t .state) × Rest)
 
 pub same-step : {X Rest : Type 0} (read : Answer → X) (t u : Step) → u ≡ t → (r : X) (σ : State) → Stepped read t r σ Rest → Stepped read u r σ Rest
 same-step read t u e r σ (told, (left, rest)) = (told ∙ ap (λ (q : Step). read (q .answer)) (sym e), (left ∙ ap (λ (q : Step). q .state) (sym e), rest))

@@ -1,53 +1,56 @@
 -- What a pass check leaves in the lent bytes, by what refuses it, or as it is packed.
 use mathlib.Core.Path.{_≡_, refl, sym, ap, _∙_}
-use mathlib.Core.Logic.{_≢_}
-use mathlib.Core.Bool.{true, false}
-use mathlib.Core.List.{List}
-use Prim.Native.Nat.{ℕ, _*_, _≤_, _<_}
+use mathlib.Core.Bool.{Bool, true, false}
+use mathlib.Core.List.{List, [], append-nil}
+use Prim.Native.Nat.{ℕ, _+_, _≤_, _<_}
+use native.Mathlib.Omega.{arith}
 use lib.Dec.{ltb}
-use lib.ListN.{drop}
+use lib.ListN.{length}
 use borrow.Author.Tests.{lt-ltb, le-ltb, eqb-true}
+use Rattle.definition.specs.Sizes.{maxDiscards, maxActions}
 use Rattle.definition.specs.Session.{session}
 use Rattle.definition.specs.Verdict.{nowhere, isFine, refusedAt}
 use Rattle.definition.specs.MemoryInit.{Lists}
-use Rattle.definition.specs.Pass.{refusedPass, checkPass}
-use Rattle.definition.specs.Calls.{State, pass, checked, Step, passCall, passStep, call}
+use Rattle.definition.specs.Pass.{Outcome, refusedPass, checkPass}
+use Rattle.definition.specs.Calls.{State, pass, Step, passCall, passStep, call}
 use Rattle.laws.proofs.Tests.{cond-on, cond-off}
 use Rattle.lists.specs.Records.{records}
-use Rattle.lists.proofs.Records.{records-same}
-use Rattle.records.specs.Lent.{decodeSurface, decodeAction}
+use Rattle.lists.proofs.Records.{records-length}
+use Rattle.records.specs.Lent.{decodeSurface, decodeAction, surfaces}
 use Rattle.memory_init.specs.declared.Counts.{Counts}
 use Rattle.memory_init.specs.Lent.{held}
-use Rattle.lent.specs.Numbers.{numbersAt}
-use Rattle.lent.specs.Packed.{listBytes, countIn, numbersIn}
-use Rattle.lent.proofs.Numbers.{whole-numbers}
-use Rattle.lent_state.specs.Lent.{stateIn}
-use Rattle.lent_state.specs.Unpacked.{rightIn, Packed}
+use Rattle.lent.specs.Packed.{countIn, numbersIn}
+use Rattle.lent_right.specs.Lent.{countsIn}
+use Rattle.lent_state.specs.Lent.{surfacesIn, actionsIn, stateIn}
+use Rattle.lent_state.specs.Judged.{rightIn, Packed}
+use Rattle.lent_state.proofs.Lent.{packed-behind, packed-whole, packed-rest}
+use Rattle.render.specs.declared.PassReply.{PassReply}
 use Rattle.render.specs.declared.PassOutcome.{PassOutcome}
-use Rattle.render.specs.Outcome.{replied, Checked}
+use Rattle.render.specs.Outcome.{maxAdded, Checked}
+use Rattle.render.proofs.Behind.{behind, before, check-added, behind-refused, behind-accepted, behind-full}
 use Rattle.desk.specs.declared.reply.Reply.{Reply}
 use Rattle.desk.specs.Entry.{RestStays}
-use Rattle.desk.specs.Reply.{numbered, refusedReply, answered}
-use Rattle.desk.proofs.Calls.{Stepped, same-step, lent-accepts, lent-refuses}
+use Rattle.desk.specs.Reply.{numbered, refusedReply, answered, Passed}
+use Rattle.desk.proofs.Calls.{same-step, lent-accepts, lent-refuses}
 
--- ── a list that is packed
+-- The counts of lists with the same discards, no actions and no clears.
+abbrev unlisted : Counts → Counts
+unlisted n = record { discards = n .discards; actions = 0; clears = 0 }
 
-module _ (k n : ℕ) (xs b b′ : List ℕ) (p : Packed k n xs b b′) where
-  packed-records : {A : Type 0} (decode : List ℕ → A) → records k decode (countIn b′) (numbersIn k b′) ≡ records k decode n xs
-  packed-records decode =
-      ap (λ (q : ℕ). records k decode q (numbersAt b′ 4 (k * q))) (p .count)
-      ∙ records-same k decode n xs (numbersAt b′ 4 (k * n)) (whole-numbers b′ 4 (k * n) ∙ p .numbers)
+-- A check on numbers x of the discards, and on no actions and clears.
+module _ (s : List ℕ) (i : ℕ) (n : Counts) (o : PassOutcome) (x x′ y y′ z z′ : List ℕ) (check : Checked (session s) (session s .pass i) (unlisted n) o x x′ y y′ z z′) where
+  -- So many actions are added, and these are few.
+  added : length (checkPass (session s) (session s .pass i) (held (unlisted n) x y z) .lists .actions) ≡ o .counts .actions
+  added = ap (λ (l : Lists). length (l .actions)) (sym (check .lists)) ∙ records-length 6 decodeAction (o .counts .actions) y′
 
-  packed-rest : RestStays k b b′
-  packed-rest = ap (λ (q : ℕ). drop (listBytes k q) b′) (p .count) ∙ p .rest ∙ ap (λ (q : ℕ). drop (listBytes k q) b) (sym (p .count))
-
--- ── what is left
-
--- What pass_lent promises.
-abbrev pub Passed : List ℕ → ℕ → List ℕ → List ℕ → List ℕ → List ℕ → Reply → List ℕ → List ℕ → List ℕ → Type 0
-Passed s i d a c b r d′ a′ c′ =
-    Stepped answered (call (session s) (pass i) (stateIn d a c b)) r (stateIn d′ a′ c′ b)
-    ((RestStays 3 d d′ × (RestStays 6 a a′ × RestStays 3 c c′)) × (r .number ≢ 0 → (d′ ≡ d) × ((a′ ≡ a) × (c′ ≡ c))))
+  pub added-few : n .discards ≤ maxDiscards → o .counts .actions ≤ maxAdded
+  added-few few =
+      omega (
+        arith,
+        added,
+        check-added [] (session s) (session s .pass i) (held (unlisted n) x y z) [] (omega (arith, few, records-length 3 decodeSurface (n .discards) x)),
+        records-length 6 decodeAction 0 y,
+      )
 
 module _ (s : List ℕ) (i : ℕ) (d a c b : List ℕ) (r : Reply) where
   abbrev σ : State
@@ -70,33 +73,54 @@ module _ (s : List ℕ) (i : ℕ) (d a c b : List ℕ) (r : Reply) where
       refl
       er
 
-  -- The pass is there: its check on the lists of numbers x, y, z, which hold what is lent.
-  module _ (n : Counts) (o : PassOutcome) (x x′ y y′ z z′ : List ℕ) (h : rightIn s d a c b ≡ true) (there : i < session s .passCount)
-      (lists : held n x y z ≡ σ .lists) (check : Checked (session s) (session s .pass i) n o x x′ y y′ z z′) (er : r ≡ numbered (o .reply)) where
-    stepped : call (session s) (pass i) σ ≡ passStep (checkPass (session s) (session s .pass i) (σ .lists)) σ
+  -- The pass is there: its check on numbers x of the discards, and on no actions and clears.
+  module _ (n : Counts) (o : PassOutcome) (x x′ y y′ z z′ : List ℕ) (h : rightIn s d a c b ≡ true) (there : i < session s .passCount) (counts : n ≡ countsIn d a c)
+      (unpacked : surfaces (n .discards) x ≡ surfacesIn d) (check : Checked (session s) (session s .pass i) (unlisted n) o x x′ y y′ z z′) where
+    abbrev judged : Outcome
+    judged = checkPass (session s) (session s .pass i) (held (unlisted n) x y z)
+
+    -- What is lent has its own actions before none, and its own clears.
+    abbrev lent : Lists
+    lent = before (actionsIn a) (session s) (session s .pass i) (held (unlisted n) x y z) (surfacesIn c)
+
+    lent-lists : lent ≡ σ .lists
+    unfolding records
+    lent-lists = λ q. record { discards = unpacked q; actions = append-nil (actionsIn a) q; clears = surfacesIn c }
+
+    stepped : (p : Outcome) → checkPass (session s) (session s .pass i) lent ≡ p → call (session s) (pass i) σ ≡ passStep p σ
     unfolding passCall
-    stepped = lent-accepts s (pass i) d a c b h ∙ ap (λ p. passStep p σ) (cond-on (ltb i (session s .passCount)) _ _ (lt-ltb i (session s .passCount) there))
+    stepped p e =
+        lent-accepts s (pass i) d a c b h
+        ∙ ap (λ q. passStep q σ) (cond-on (ltb i (session s .passCount)) _ _ (lt-ltb i (session s .passCount) there) ∙ ap (checkPass (session s) (session s .pass i)) (sym lent-lists) ∙ e)
 
-    left : held (o .counts) x′ y′ z′ ≡ checkPass (session s) (session s .pass i) (σ .lists) .lists
-    left = check .lists ∙ ap (λ (l : Lists). checkPass (session s) (session s .pass i) l .lists) lists
+    fine-as : (t : Bool) → isFine (o .reply .verdict) ≡ t → isFine (judged .reply .verdict) ≡ t
+    fine-as t e = ap (λ (q : PassReply). isFine (q .verdict)) (sym (check .reply)) ∙ e
 
-    told : r ≡ answered (checked (checkPass (session s) (session s .pass i) (σ .lists) .reply))
-    told = er ∙ ap numbered (check .reply) ∙ ap (λ (l : Lists). numbered (replied (checkPass (session s) (session s .pass i) l .reply))) lists
+    -- So many actions are lent.
+    held-before : length (actionsIn a) ≡ n .actions
+    held-before = records-length 6 decodeAction (countIn a) (numbersIn 6 a) ∙ ap (λ (q : Counts). q .actions) (sym counts)
 
-    pub passed-refused : isFine (o .reply .verdict) ≡ false → Passed s i d a c b r d a c
-    passed-refused unfit =
-        let u = check .refused unfit in
-        let same : σ .lists ≡ checkPass (session s) (session s .pass i) (σ .lists) .lists = sym lists ∙ sym (λ q. held (u .counts q) (u .discards q) (u .actions q) (u .clears q)) ∙ left in
-        kept _ stepped (ap (λ (l : Lists). record { lists = l; status = b }) (sym same)) told
+    pub passed-refused : isFine (o .reply .verdict) ≡ false → r ≡ numbered (o .reply) → Passed s i d a c b r d a c
+    passed-refused unfit er =
+        kept _ (stepped _ (behind-refused (actionsIn a) (session s) (session s .pass i) (held (unlisted n) x y z) (surfacesIn c) (fine-as false unfit)))
+        (ap (λ (l : Lists). record { lists = l; status = b }) lent-lists) (er ∙ ap numbered (check .reply))
 
-    pub passed-accepted : (d′ a′ c′ : List ℕ) → isFine (o .reply .verdict) ≡ true → Packed 3 (o .counts .discards) x′ d d′ → Packed 6 (o .counts .actions) y′ a a′ → Packed 3 (o .counts .clears) z′ c c′
-        → Passed s i d a c b r d′ a′ c′
-    passed-accepted d′ a′ c′ fit pd pa pc =
-        let now : stateIn d′ a′ c′ b .lists ≡ held (o .counts) x′ y′ z′ = λ q. record {
-          discards = packed-records 3 (o .counts .discards) x′ d d′ pd decodeSurface q;
-          actions = packed-records 6 (o .counts .actions) y′ a a′ pa decodeAction q;
-          clears = packed-records 3 (o .counts .clears) z′ c c′ pc decodeSurface q;
+    -- 50: there is no room for the actions that it adds.
+    pub passed-full : isFine (o .reply .verdict) ≡ true → maxActions < n .actions + o .counts .actions → r ≡ refusedReply 50 → Passed s i d a c b r d a c
+    passed-full fit many er =
+        kept _
+        (stepped _ (behind-full (actionsIn a) (session s) (session s .pass i) (held (unlisted n) x y z) (surfacesIn c) (fine-as true fit) (omega (arith, many, held-before, added s i n o x x′ y y′ z z′ check))))
+        (ap (λ (l : Lists). record { lists = l; status = b }) lent-lists) er
+
+    pub passed-accepted : (d′ a′ c′ : List ℕ) → isFine (o .reply .verdict) ≡ true → n .actions + o .counts .actions ≤ maxActions → r ≡ numbered (o .reply)
+        → Packed 3 0 (o .counts .discards) x′ d d′ → Packed 6 (n .actions) (o .counts .actions) y′ a a′ → Packed 3 0 (o .counts .clears) z′ c c′ → Passed s i d a c b r d′ a′ c′
+    passed-accepted d′ a′ c′ fit few er pd pa pc =
+        let step : checkPass (session s) (session s .pass i) lent ≡ record { reply = judged .reply; lists = behind (actionsIn a) (judged .lists) } = behind-accepted (actionsIn a) (session s) (session s .pass i) (held (unlisted n) x y z) (surfacesIn c) (fine-as true fit) (omega (arith, few, held-before, added s i n o x x′ y y′ z z′ check)) in
+        let now : stateIn d′ a′ c′ b .lists ≡ behind (actionsIn a) (held (o .counts) x′ y′ z′) = λ q. record {
+          discards = packed-whole 3 decodeSurface (o .counts .discards) x′ d d′ pd q;
+          actions = packed-behind 6 decodeAction (n .actions) (o .counts .actions) y′ a a′ pa (ap (λ (m : Counts). m .actions) counts) q;
+          clears = packed-whole 3 decodeSurface (o .counts .clears) z′ c c′ pc q;
         } in
-        let rests : RestStays 3 d d′ × (RestStays 6 a a′ × RestStays 3 c c′) = (packed-rest 3 (o .counts .discards) x′ d d′ pd, (packed-rest 6 (o .counts .actions) y′ a a′ pa, packed-rest 3 (o .counts .clears) z′ c c′ pc)) in
-        same-step answered _ _ stepped r (stateIn d′ a′ c′ b)
-        (told, (ap (λ (l : Lists). record { lists = l; status = b }) (now ∙ left), (rests, λ h. absurd (h (ap (λ (q : Reply). q .number) er ∙ eqb-true (o .reply .verdict .number) 0 fit)))))
+        let rests : RestStays 3 d d′ × (RestStays 6 a a′ × RestStays 3 c c′) = (packed-rest 3 0 (o .counts .discards) x′ d d′ pd, (packed-rest 6 (n .actions) (o .counts .actions) y′ a a′ pa, packed-rest 3 0 (o .counts .clears) z′ c c′ pc)) in
+        same-step answered _ _ (stepped _ step) r (stateIn d′ a′ c′ b)
+        (er ∙ ap numbered (check .reply), (ap (λ (l : Lists). record { lists = l; status = b }) (now ∙ ap (behind (actionsIn a)) (check .lists)), (rests, λ g. absurd (g (ap (λ (q : Reply). q .number) er ∙ eqb-true (o .reply .verdict .number) 0 fit)))))

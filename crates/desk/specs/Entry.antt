@@ -33,3 +33,7 @@ entry s k d a c status =
 -- The bytes past the records of a list stay.
 abbrev pub RestStays : ℕ → List ℕ → List ℕ → Type 0
 RestStays k b b′ = drop (listBytes k (countIn b′)) b′ ≡ drop (listBytes k (countIn b′)) b
+
+-- What a C function promises of a call whose step is t: the reply reads the answer, what is lent then holds the state, and the rest.
+abbrev pub Stepped : {X : Type 0} → (Answer → X) → Step → X → State → Type 0 → Type 0
+Stepped read t r σ Rest = (r ≡ read (t .answer)) × ((σ ≡ t .state) × Rest)

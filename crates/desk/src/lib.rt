@@ -2,9 +2,12 @@
 // by equations what the reply means and what the lent lists and status bytes then hold, refused or not.
 pub mod reply;
 
+use course::MAX_ACTIONS;
+use lent::packed::unpack;
 use lent_state::is_short;
+use lent_state::judge_lent;
 use lent_state::pack_lent;
-use lent_state::unpack_lent;
+use memory_init::Counts;
 use readable::session_refusal;
 use render::check_pass;
 use reply::Reply;
@@ -17,15 +20,20 @@ use submission::submit;
 use verdict::is_fine;
 use wire::put_u32;
 ghost use mathlib.Core.Path.{_≡_};
-ghost use mathlib.Core.Bool.{false};
 ghost use mathlib.Core.Logic.{_≢_};
-ghost use lib.ListN.{drop};
+ghost use mathlib.Core.Bool.{true, false};
+ghost use mathlib.Core.List.{List};
+ghost use Prim.Native.Nat.{ℕ, _≤_, _<_};
+ghost use lib.ListN.{length, drop};
 ghost use Rattle.definition.specs.Readable.{sessionRefusal};
 ghost use Rattle.definition.specs.Session as Se;
 ghost use Rattle.definition.specs.Calls.{pass, submit, call};
-ghost use Rattle.lent_state.specs.Lent.{stateIn, short};
+ghost use Rattle.memory_init.specs.Lent.{Within};
+ghost use Rattle.lent_right.specs.Lent.{countsIn};
+ghost use Rattle.lent_state.specs.Lent.{discardBytes, actionBytes, clearBytes, stateIn, short};
+ghost use Rattle.lent_state.specs.Judged.{rightIn};
 ghost use Rattle.desk.specs.Entry.{numberIn, entry, RestStays};
-ghost use Rattle.desk.specs.Reply.{answered};
+ghost use Rattle.desk.specs.Reply.{answered, Passed};
 ghost use Rattle.desk.specs.Whole.{wholeNumber, RowsOf};
 
 // The session's refusal: 0, or 1 to 4.
@@ -50,23 +58,15 @@ fn submit_lent(
     ensures { λ _. ⌜ (drop 4 (now (discards .exit)) ≡ drop 4 (now (discards .entry))) × (drop 4 (now (actions .exit)) ≡ drop 4 (now (actions .entry))) ⌝ }
     ensures { λ r. ⌜ (r ≢ 0 → (now (discards .exit) ≡ now (discards .entry)) × ((now (actions .exit) ≡ now (actions .entry)) × (now (status .exit) ≡ now (status .entry)))) ⌝ }
 {
-    let mut d: [u32; 192] = [0; 192];
-    let mut a: [u32; 3072] = [0; 3072];
-    let mut c: [u32; 240] = [0; 240];
-    let lent = unpack_lent(
-        session,
-        discards,
-        actions,
-        clears,
-        status,
-        &mut d,
-        &mut a,
-        &mut c,
-    );
+    let lent = judge_lent(session, discards, actions, clears, status);
     if !lent.right {
         return 6;
     }
+    let mut d: [u32; 192] = [0; 192];
+    let mut a: [u32; 3072] = [0; 3072];
     let n = lent.counts;
+    unpack(discards, 3, n.discards, &mut d);
+    unpack(actions, 6, n.actions, &mut a);
     submit(session, &d, &a, n, status);
     put_u32(discards, 0, 0);
     put_u32(actions, 0, 0);
@@ -98,7 +98,42 @@ pub extern "C" fn deskcheck_submit(
     submit_lent(session, discards, actions, clears, status)
 }
 
-// A pass check, where the buffers are long enough and the session is readable: judged on copies, and written back if it is accepted.
+// The check of a pass that the session has, on what is lent and in range, of which n are the counts. A pass looks at no action before
+// its own and replaces the clears, so that it is judged on a copy of the discards alone; what it adds is written if it is accepted.
+fn check_lent(
+    session: &[u8],
+    i: u32,
+    discards: &mut [u8],
+    actions: &mut [u8],
+    clears: &mut [u8],
+    n: Counts,
+) -> Reply
+    requires { ⌜ (n ≡ countsIn (now discards) (now actions) (now clears)) × (Within n × (i < Se.session (now session) .passCount)) ⌝ }
+    requires { ⌜ (discardBytes ≤ length (now discards)) × ((actionBytes ≤ length (now actions)) × (clearBytes ≤ length (now clears))) ⌝ }
+    ensures { λ r. ⌜ ((b : List ℕ) → rightIn (now (session .entry)) (now (discards .entry)) (now (actions .entry)) (now (clears .entry)) b ≡ true → Passed (now (session .entry)) i (now (discards .entry)) (now (actions .entry)) (now (clears .entry)) b r (now (discards .exit)) (now (actions .exit)) (now (clears .exit))) ⌝ }
+{
+    let mut d: [u32; 192] = [0; 192];
+    let mut a: [u32; 540] = [0; 540];
+    let mut c: [u32; 240] = [0; 240];
+    unpack(discards, 3, n.discards, &mut d);
+    let unlisted = Counts {
+        discards: n.discards,
+        actions: 0,
+        clears: 0,
+    };
+    let outcome = check_pass(session, i, &mut d, &mut a, &mut c, unlisted);
+    if !is_fine(outcome.reply.verdict) {
+        return numbered(outcome.reply);
+    }
+    let m = outcome.counts;
+    if n.actions + m.actions > MAX_ACTIONS {
+        return refused_reply(50);
+    }
+    pack_lent(discards, actions, clears, n.actions, m, &d, &a, &c);
+    numbered(outcome.reply)
+}
+
+// A pass check, where the buffers are long enough and the session is readable.
 fn pass_lent(
     session: &[u8],
     i: u32,
@@ -108,24 +143,9 @@ fn pass_lent(
     status: &[u8],
 ) -> Reply
     requires { ⌜ (short (now discards) (now actions) (now clears) (now status) ≡ false) × (sessionRefusal (now session) ≡ 0) ⌝ }
-    ensures { λ r. ⌜ r ≡ answered (call (Se.session (now (session .entry))) (pass i) (stateIn (now (discards .entry)) (now (actions .entry)) (now (clears .entry)) (now (status .entry))) .answer) ⌝ }
-    ensures { λ _. ⌜ stateIn (now (discards .exit)) (now (actions .exit)) (now (clears .exit)) (now (status .entry)) ≡ call (Se.session (now (session .entry))) (pass i) (stateIn (now (discards .entry)) (now (actions .entry)) (now (clears .entry)) (now (status .entry))) .state ⌝ }
-    ensures { λ _. ⌜ (RestStays 3 (now (discards .entry)) (now (discards .exit))) × ((RestStays 6 (now (actions .entry)) (now (actions .exit))) × (RestStays 3 (now (clears .entry)) (now (clears .exit)))) ⌝ }
-    ensures { λ r. ⌜ (r .number ≢ 0 → (now (discards .exit) ≡ now (discards .entry)) × ((now (actions .exit) ≡ now (actions .entry)) × (now (clears .exit) ≡ now (clears .entry)))) ⌝ }
+    ensures { λ r. ⌜ Passed (now (session .entry)) i (now (discards .entry)) (now (actions .entry)) (now (clears .entry)) (now (status .entry)) r (now (discards .exit)) (now (actions .exit)) (now (clears .exit)) ⌝ }
 {
-    let mut d: [u32; 192] = [0; 192];
-    let mut a: [u32; 3072] = [0; 3072];
-    let mut c: [u32; 240] = [0; 240];
-    let lent = unpack_lent(
-        session,
-        discards,
-        actions,
-        clears,
-        status,
-        &mut d,
-        &mut a,
-        &mut c,
-    );
+    let lent = judge_lent(session, discards, actions, clears, status);
     if !lent.right {
         return refused_reply(6);
     }
@@ -133,15 +153,7 @@ fn pass_lent(
         return refused_reply(5);
     }
     let n = lent.counts;
-    let outcome = check_pass(session, i, &mut d, &mut a, &mut c, n);
-    let reply = outcome.reply;
-    let verdict = reply.verdict;
-    if !is_fine(verdict) {
-        return numbered(reply);
-    }
-    let m = outcome.counts;
-    pack_lent(discards, actions, clears, m, &d, &a, &c);
-    numbered(reply)
+    check_lent(session, i, discards, actions, clears, n)
 }
 
 // The check of pass number i: 6 for a buffer that is too short, 1 to 4 for the session, 6 for what is lent, 5 and 10 to 50 for the pass.
