@@ -9,7 +9,7 @@ log=$(mktemp) || exit 1
 trap 'rm -f "$log"' EXIT
 
 ../tools/library.sh
-../tools/library.sh texture_surface_discards
+../tools/library.sh memory_init
 [ -f ../target/bin/deskcheck ] || (cd .. && rt check deskcheck)
 
 RUST_BACKTRACE=0 cargo test --offline --locked --workspace --no-fail-fast >"$log" 2>&1

@@ -5,26 +5,39 @@ set -u
 cd "$(dirname "$0")/.." || exit 2
 
 passed=0 failed=0
+logs=$(mktemp -d) || exit 2
+trap 'rm -rf "$logs"' EXIT
 
-# Runs one suite, shows what it prints, and adds its counts.
-suite() { # COMMAND..
-    echo "== $*"
-    local log last status
-    log=$(mktemp) || exit 2
-    "$@" 2>&1 | tee "$log"
-    status=${PIPESTATUS[0]}
-    last=$(tail -n 1 "$log")
-    rm -f "$log"
+# Adds the counts of the last line of what a suite printed.
+count() { # LOG STATUS
+    local last
+    last=$(tail -n 1 "$1")
     if [[ $last =~ ([0-9]+)\ passed,\ ([0-9]+)\ failed$ ]]; then
         passed=$((passed + BASH_REMATCH[1])) failed=$((failed + BASH_REMATCH[2]))
-        if [ "$status" -ne 0 ] && [ "${BASH_REMATCH[2]}" -eq 0 ]; then failed=$((failed + 1)); fi
+        if [ "$2" -ne 0 ] && [ "${BASH_REMATCH[2]}" -eq 0 ]; then failed=$((failed + 1)); fi
     else
         failed=$((failed + 1))
     fi
 }
 
+# Runs one suite, shows what it prints, and adds its counts.
+suite() { # COMMAND..
+    echo "== $*"
+    "$@" 2>&1 | tee "$logs/suite"
+    count "$logs/suite" "${PIPESTATUS[0]}"
+}
+
+# The edits of the definition need nothing that rt ci makes, so they run beside it, one at a time, and are shown after it. What they
+# say goes to target/ only then, since rt ci begins by removing it.
+EDIT_JOBS=1 EDIT_LOGS=$logs/edits bash tools/definition-edits.sh > "$logs/definition-edits" 2>&1 &
+beside=$!
 suite rt ci
-suite bash tools/definition-edits.sh
+wait "$beside"
+status=$?
+mkdir -p target && mv "$logs/edits" target/definition-edits
+echo "== tools/definition-edits.sh"
+cat "$logs/definition-edits"
+count "$logs/definition-edits" "$status"
 suite bash harness/run-tests.sh
 
 echo "$passed passed, $failed failed"

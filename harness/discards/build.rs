@@ -1,8 +1,8 @@
-//! Links the proved library of `crates/texture_surface_discards`.
+//! Links the proved library of `crates/memory_init`.
 
 #[path = "../link.rs"]
 mod link;
 
 fn main() {
-    link::library("texture_surface_discards");
+    link::library("memory_init");
 }

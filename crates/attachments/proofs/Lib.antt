@@ -1,2 +1,3 @@
 pub mod DepthStencil
 pub mod Slots
+pub mod Plans

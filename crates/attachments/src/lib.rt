@@ -1,15 +1,18 @@
 // The attachments of a pass, each alone: what it does to the lists and what it replies (RenderPassInfo::start, finish).
+// In `plan`: the action, the discard and the divergent aspect by its operations alone.
 // Every function is total, and its contract is an equation with the definition, under the translations of specs/.
+pub mod plan;
+
 use channel::color::black;
 use channel::color::ops_of;
 use definition::Attachment;
 use definition::Range;
 use definition::Slot;
 use definition::View;
-use depth_channel::ResolvedDepth;
-use depth_channel::depth_resolved;
-use formats::has_depth;
-use formats::has_stencil;
+use depth_stencil::depth::ResolvedDepth;
+use depth_stencil::depth::depth_resolved;
+use depth_stencil::stencil::ResolvedStencil;
+use depth_stencil::stencil::stencil_resolved;
 use memory_init::InitKind;
 use plan::COLOR_TARGET;
 use plan::NO_ASPECT;
@@ -25,10 +28,10 @@ use session::derived::read_only_depth_stencil;
 use session::derived::strict;
 use session::derived::texture_binding;
 use session::derived::view_range;
+use session::formats::has_depth;
+use session::formats::has_stencil;
 use session::stencil;
 use session::view;
-use stencil_channel::ResolvedStencil;
-use stencil_channel::stencil_resolved;
 ghost use mathlib.Core.Path.{_≡_};
 ghost use Rattle.definition.specs.Formats.{hasDepth, hasStencil};
 ghost use Rattle.definition.specs.Session as Se;
@@ -36,8 +39,8 @@ ghost use Rattle.definition.specs.Session.{Session, session};
 ghost use Rattle.definition.specs.Attachments as At;
 ghost use Rattle.definition.specs.Pass.{attachmentReply, depthStencilUsage, depthStencilReply};
 ghost use Rattle.definition.specs.declared.Range as Ra;
-ghost use Rattle.depth_channel.specs.Depth as De;
-ghost use Rattle.stencil_channel.specs.Stencil as St;
+ghost use Rattle.depth_stencil.specs.Depth as De;
+ghost use Rattle.depth_stencil.specs.Stencil as St;
 ghost use Rattle.attachments.specs.Attached.{PlannedAs, Present, Absent, PartOf, blank};
 
 // What an attachment does to the lists: of its surfaces, the action that it registers and whether it lists a discard.

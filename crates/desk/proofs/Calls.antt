@@ -13,14 +13,14 @@ use Rattle.definition.specs.Readable.{sessionRefusal}
 use Rattle.definition.specs.Calls.{State, Call, pass, submit, Answer, Step, noEntries, lentRight, called, notLent, call}
 use Rattle.definition.specs.Program.{lines, deskcheck}
 use Rattle.laws.proofs.Tests.{cond-on, cond-off}
-use Rattle.lists.specs.Records.{records}
+use Rattle.laws.specs.Records.{records}
 use Rattle.records.specs.Lent.{surfaces, actions}
 use Rattle.wire.specs.Writing.{putNumber}
 use Rattle.wire.proofs.Writing.{put-read}
 use Rattle.lent.specs.Numbers.{numbersAt}
 use Rattle.lent.specs.Packed.{countIn}
-use Rattle.lent_state.specs.Lent.{surfacesIn, actionsIn, stateIn, short}
-use Rattle.lent_state.specs.Judged.{rightIn}
+use Rattle.lent.specs.State.{surfacesIn, actionsIn, stateIn, short}
+use Rattle.lent.specs.Judged.{rightIn}
 use Rattle.desk.specs.Entry.{refusedCall, entry, Stepped}
 
 pub lent-accepts : (s : List ℕ) (k : Call) (d a c status : List ℕ) → rightIn s d a c status ≡ true → call (session s) k (stateIn d a c status) ≡ called (session s) k (stateIn d a c status)

@@ -2,3 +2,4 @@
 pub mod Calls
 pub mod Passed
 pub mod Sent
+pub mod EntryPoints

@@ -14,16 +14,16 @@ use Rattle.definition.specs.MemoryInit.{Lists}
 use Rattle.definition.specs.Pass.{Outcome, refusedPass, checkPass}
 use Rattle.definition.specs.Calls.{State, pass, Step, passCall, passStep, call}
 use Rattle.laws.proofs.Tests.{cond-on, cond-off}
-use Rattle.lists.specs.Records.{records}
-use Rattle.lists.proofs.Records.{records-length}
+use Rattle.laws.specs.Records.{records}
+use Rattle.laws.proofs.Records.{records-length}
 use Rattle.records.specs.Lent.{decodeSurface, decodeAction, surfaces}
 use Rattle.memory_init.specs.declared.Counts.{Counts}
 use Rattle.memory_init.specs.Lent.{held}
 use Rattle.lent.specs.Packed.{countIn, numbersIn}
-use Rattle.lent_right.specs.Lent.{countsIn}
-use Rattle.lent_state.specs.Lent.{surfacesIn, actionsIn, stateIn}
-use Rattle.lent_state.specs.Judged.{rightIn, Packed}
-use Rattle.lent_state.proofs.Lent.{packed-behind, packed-whole, packed-rest}
+use Rattle.lent.specs.Right.{countsIn}
+use Rattle.lent.specs.State.{surfacesIn, actionsIn, stateIn}
+use Rattle.lent.specs.Judged.{rightIn, Packed}
+use Rattle.lent.proofs.Packing.{packed-behind, packed-whole, packed-rest}
 use Rattle.render.specs.declared.PassReply.{PassReply}
 use Rattle.render.specs.declared.PassOutcome.{PassOutcome}
 use Rattle.render.specs.Outcome.{maxAdded, Checked}

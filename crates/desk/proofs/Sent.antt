@@ -13,8 +13,8 @@ use Rattle.wire.specs.Writing.{putNumber}
 use Rattle.lent.proofs.Numbers.{number-past}
 use Rattle.memory_init.specs.declared.Counts.{Counts}
 use Rattle.records.specs.Lent.{surfaces, actions}
-use Rattle.lent_state.specs.Lent.{surfacesIn, actionsIn, stateIn}
-use Rattle.lent_state.specs.Judged.{rightIn}
+use Rattle.lent.specs.State.{surfacesIn, actionsIn, stateIn}
+use Rattle.lent.specs.Judged.{rightIn}
 use Rattle.desk.specs.Entry.{numberIn, Stepped}
 use Rattle.desk.proofs.Calls.{same-step, lent-accepts, lent-refuses, none-listed}
 

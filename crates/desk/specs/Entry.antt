@@ -11,7 +11,7 @@ use Rattle.definition.specs.Verdict.{nowhere, refusedAt}
 use Rattle.definition.specs.Pass.{refusal}
 use Rattle.definition.specs.Calls.{State, Call, pass, submit, Answer, checked, submitted, Step, call}
 use Rattle.lent.specs.Packed.{listBytes, countIn}
-use Rattle.lent_state.specs.Lent.{stateIn, short}
+use Rattle.lent.specs.State.{stateIn, short}
 
 -- Refused as n: everything stays as found.
 abbrev pub refusedCall : ℕ → Call → State → Step

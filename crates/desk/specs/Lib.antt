@@ -2,3 +2,4 @@
 pub mod Entry
 pub mod Reply
 pub mod Whole
+pub mod EntryPoints

@@ -10,7 +10,7 @@ use Rattle.definition.specs.Pass.{refusal}
 use Rattle.definition.specs.Calls.{Answer, pass, checked, submitted, call}
 use Rattle.render.specs.declared.PassReply.{PassReply}
 use Rattle.render.specs.Outcome.{replied}
-use Rattle.lent_state.specs.Lent.{stateIn}
+use Rattle.lent.specs.State.{stateIn}
 use Rattle.desk.specs.Entry.{RestStays, Stepped}
 use Rattle.desk.specs.declared.reply.Reply.{Reply}
 

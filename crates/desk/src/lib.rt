@@ -1,23 +1,24 @@
 // The entry points of the desk check, for callers in C and Rust. Each tests its own input and has no `requires`; its contract says
 // by equations what the reply means and what the lent lists and status bytes then hold, refused or not.
+// In EntryPoints of specs/ and proofs/: demand 3 of calls of deskcheck_pass and deskcheck_submit, one after the other from fresh buffers.
 pub mod reply;
 
-use course::MAX_ACTIONS;
+use definition::verdicts::is_fine;
 use lent::packed::unpack;
-use lent_state::is_short;
-use lent_state::judge_lent;
-use lent_state::pack_lent;
+use lent::state::is_short;
+use lent::state::judge_lent;
+use lent::state::pack_lent;
 use memory_init::Counts;
 use readable::session_refusal;
 use render::check_pass;
 use reply::Reply;
 use reply::numbered;
 use reply::refused_reply;
+use room::course::MAX_ACTIONS;
 use rows::ROWS_BYTES;
 use rows::session_rows;
-use session::pass_count;
+use session::header::pass_count;
 use submission::submit;
-use verdict::is_fine;
 use wire::put_u32;
 ghost use mathlib.Core.Path.{_≡_};
 ghost use mathlib.Core.Logic.{_≢_};
@@ -29,9 +30,9 @@ ghost use Rattle.definition.specs.Readable.{sessionRefusal};
 ghost use Rattle.definition.specs.Session as Se;
 ghost use Rattle.definition.specs.Calls.{pass, submit, call};
 ghost use Rattle.memory_init.specs.Lent.{Within};
-ghost use Rattle.lent_right.specs.Lent.{countsIn};
-ghost use Rattle.lent_state.specs.Lent.{discardBytes, actionBytes, clearBytes, stateIn, short};
-ghost use Rattle.lent_state.specs.Judged.{rightIn};
+ghost use Rattle.lent.specs.Right.{countsIn};
+ghost use Rattle.lent.specs.State.{discardBytes, actionBytes, clearBytes, stateIn, short};
+ghost use Rattle.lent.specs.Judged.{rightIn};
 ghost use Rattle.desk.specs.Entry.{numberIn, entry, RestStays};
 ghost use Rattle.desk.specs.Reply.{answered, Passed};
 ghost use Rattle.desk.specs.Whole.{wholeNumber, RowsOf};

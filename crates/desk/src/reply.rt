@@ -1,8 +1,8 @@
 // The reply to one pass as C callers see it: numbers, and attachments in seventeen records.
 use definition::Attachment;
+use definition::verdicts::NOWHERE;
 use render::PassReply;
-use replies::no_attachments;
-use verdict::NOWHERE;
+use render::replies::no_attachments;
 ghost use mathlib.Core.Path.{_≡_};
 ghost use mathlib.Core.Bool.{cond};
 ghost use Prim.Native.Nat.{_≤_};

@@ -9,7 +9,7 @@ use print::print_session;
 ghost use Prim.Native.Nat.{_+_, _*_, _≤_};
 ghost use lib.ListN.{length};
 ghost use Rattle.definition.specs.Sizes.{maxPasses};
-ghost use Rattle.text.specs.Text.{lineBytes};
+ghost use Rattle.print.specs.Text.{lineBytes};
 ghost use Rattle.print.specs.Front.{FrontLength};
 
 // The length of the longest session.

@@ -11,3 +11,7 @@ pub mod Submission
 pub mod Room
 pub mod Views
 pub mod Lent
+pub mod Records
+pub mod Compact
+pub mod Extend
+pub mod Noninterference

@@ -2,3 +2,5 @@ pub mod Surfaces
 pub mod Submission
 pub mod Room
 pub mod Views
+pub mod Records
+pub mod Noninterference

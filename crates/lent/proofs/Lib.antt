@@ -1,2 +1,5 @@
 -- The root of this crate's laws.
 pub mod Numbers
+pub mod Turns
+pub mod Reading
+pub mod Packing

@@ -1,6 +1,9 @@
 // Numbers that a caller lends as little-endian bytes, moved into and out of slices of numbers.
 // Reading and writing are inverse to each other where the bytes have room, which the caller knows beforehand.
+// In `packed` a list of them, in `right` whether lists are within range, in `state` all that is lent.
 pub mod packed;
+pub mod right;
+pub mod state;
 
 use wire::put_u32;
 use wire::u32_at;

@@ -1,1 +1,4 @@
 pub mod Registration
+pub mod Slices
+pub mod Contents
+pub mod Compaction

@@ -11,8 +11,8 @@ use Rattle.definition.specs.MemoryInit.{Lists, implicitAt, matching, registerIn
 use Rattle.definition.specs.declared.Surface.{Surface}
 use Rattle.definition.specs.declared.Range.{Range}
 use Rattle.definition.specs.declared.MemoryInitKind.the-variants.{ImplicitlyInitialized, NeedsInitializedMemory}
-use Rattle.lists.specs.Records.{Appended, Retained}
-use Rattle.lists.proofs.Records.{records-length, past-more, append-twice, append-count}
+use Rattle.laws.specs.Records.{Appended, Retained}
+use Rattle.laws.proofs.Records.{records-length, past-more, append-twice, append-count}
 use Rattle.memory_init.specs.declared.Counts.{Counts}
 use Rattle.records.specs.Lent.{decodeSurface, decodeAction, actionOf, surfaces}
 use Rattle.memory_init.specs.Lent.{held, Room, Leaves, Spared}

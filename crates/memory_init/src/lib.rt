@@ -1,5 +1,8 @@
 // The port of memory_init.rs: the discards, actions and clears of a command buffer, in lists that the caller lends.
 // Every function answers as the definition does; none refuses for want of room, which the caller knows beforehand.
+// In `texture_surface_discards`: the discards as a lent slice of records.
+pub mod texture_surface_discards;
+
 use definition::MemoryInitKind;
 use definition::Range;
 use definition::Surface;
@@ -16,7 +19,7 @@ ghost use lib.ListN.{length};
 ghost use Rattle.definition.specs.Surfaces as Surfaces;
 ghost use Rattle.definition.specs.MemoryInit.{implicitAt, matching, registerInitAction, registered, applyPlan};
 ghost use Rattle.definition.specs.declared.MemoryInitKind.the-variants.{ImplicitlyInitialized, NeedsInitializedMemory};
-ghost use Rattle.lists.specs.Records.{Appended, Retained};
+ghost use Rattle.laws.specs.Records.{Appended, Retained};
 ghost use Rattle.records.specs.Lent.{decodeSurface, actionOf, decodeAction, surfaces};
 ghost use Rattle.memory_init.specs.Lent.{held, Room, Leaves, initKind};
 

@@ -11,12 +11,12 @@ use lib.ListN.{length, length-take}
 use Rattle.definition.specs.Session.{session, totalLength}
 use Rattle.definition.specs.Readable.{sessionRefusal}
 use Rattle.definition.specs.Program.{deskcheck}
-use Rattle.oversize.specs.Most.{mostBytes}
-use Rattle.oversize.proofs.Most.{long-refused}
+use Rattle.print.specs.Most.{mostBytes}
+use Rattle.print.proofs.Most.{long-refused}
 use Rattle.readable.proofs.Valid.{valid-of}
 use Rattle.rows.specs.Rows.{rowsIn}
-use Rattle.text.specs.Text.{linesText, refusalText}
-use Rattle.text.specs.Output.{output}
+use Rattle.print.specs.Text.{linesText, refusalText}
+use Rattle.print.specs.Output.{output}
 use Rattle.print.specs.Front.{FrontLength}
 
 -- So many bytes that the buffer has.

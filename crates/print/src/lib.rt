@@ -1,8 +1,12 @@
 // What `deskcheck` prints for a file, written to the front of a buffer of 9,900 bytes: a hundred lines of ninety-nine.
+// In `text` numbers and lines as bytes, in `oversize` the refusal of a file that is longer than any session.
+pub mod oversize;
+pub mod text;
+
 use desk::deskcheck_session;
 use oversize::oversize_refusal;
 use rows::ROWS_BYTES;
-use session::pass_count;
+use session::header::pass_count;
 use text::LINE_BYTES;
 use text::put_lines;
 use text::put_refusal;
@@ -12,9 +16,9 @@ ghost use Prim.Native.Nat.{ℕ, _*_, _≤_, _<_};
 ghost use lib.ListN.{length, take};
 ghost use Rattle.definition.specs.Sizes.{maxPasses};
 ghost use Rattle.definition.specs.Session as Se;
-ghost use Rattle.oversize.specs.Most.{mostBytes};
-ghost use Rattle.text.specs.Text.{lineBytes};
-ghost use Rattle.text.specs.Output.{output};
+ghost use Rattle.print.specs.Most.{mostBytes};
+ghost use Rattle.print.specs.Text.{lineBytes};
+ghost use Rattle.print.specs.Output.{output};
 ghost use Rattle.print.specs.Front.{FrontLength};
 
 // Bytes that the text for every file fits in.

@@ -17,13 +17,13 @@ use Rattle.definition.specs.declared.MemoryInitKind.the-variants.{ImplicitlyIni
 use Rattle.laws.proofs.Tests.{by-order}
 use Rattle.laws.proofs.Lists.{attach-append}
 use Rattle.laws.proofs.Folds.{parts-turn}
-use Rattle.lists.specs.Records.{records}
-use Rattle.lists.proofs.Records.{records-length, past-more}
+use Rattle.laws.specs.Records.{records}
+use Rattle.laws.proofs.Records.{records-length, past-more}
 use Rattle.records.specs.Lent.{decodeSurface, decodeAction}
 use Rattle.memory_init.specs.declared.Counts.{Counts}
 use Rattle.memory_init.specs.Lent.{held, initKind, Leaves}
 use Rattle.memory_init.proofs.Registration.{spared-none, spared-step, leaves-discards}
-use Rattle.course.proofs.Room.{Fit, attach-grows, actions-grow}
+use Rattle.room.proofs.Room.{Fit, attach-grows, actions-grow}
 use Rattle.attachments.specs.declared.Planned.{Planned}
 use Rattle.attachments.specs.Attached.{PlannedAs}
 use Rattle.attachments.proofs.Slots.{slot-some, slot-resolving}

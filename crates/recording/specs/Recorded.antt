@@ -8,7 +8,7 @@ use Rattle.definition.specs.MemoryInit.{Lists}
 use Rattle.definition.specs.Attachments.{Attached, attachAll}
 use Rattle.memory_init.specs.declared.Counts.{Counts}
 use Rattle.memory_init.specs.Lent.{held, Spared}
-use Rattle.course.proofs.Room.{Fit}
+use Rattle.room.proofs.Room.{Fit}
 
 -- The lent lists of discards and clears are long enough: 64 discards, 80 clears.
 pub record Lent (n : Counts) (d c : List ℕ) : Type 0 where

@@ -17,7 +17,7 @@ ghost use Rattle.definition.specs.Session.{session};
 ghost use Rattle.definition.specs.Attachments.{Attached, depthStencilPart, slotPart, slotParts, attachments};
 ghost use Rattle.memory_init.specs.Lent.{held, initKind};
 ghost use Rattle.attachments.specs.Attached.{PlannedAs, PartOf};
-ghost use Rattle.course.proofs.Room.{Fit};
+ghost use Rattle.room.proofs.Room.{Fit};
 ghost use Rattle.recording.specs.Recorded.{Lent, Fitting, Recorded};
 
 // An attachment.

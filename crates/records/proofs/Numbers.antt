@@ -11,8 +11,8 @@ use Rattle.definition.specs.declared.Surface.{Surface}
 use Rattle.definition.specs.declared.Range.{Range}
 use Rattle.definition.specs.declared.MemoryInitKind.{MemoryInitKind}
 use Rattle.definition.specs.declared.MemoryInitKind.the-variants.{ImplicitlyInitialized, NeedsInitializedMemory}
-use Rattle.lists.specs.Records.{recordAt}
-use Rattle.lists.proofs.Records.{Written, written, number-at}
+use Rattle.laws.specs.Records.{recordAt}
+use Rattle.laws.proofs.Records.{Written, written, number-at}
 use Rattle.records.specs.Lent.{decodeSurface, encodeSurface, decodeKind, encodeKind, layersOf, actionOf, decodeAction, encodeAction, surfaceIn, actionIn}
 
 -- The stores of straight-line code, each so many places after the first.

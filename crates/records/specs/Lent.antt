@@ -11,7 +11,7 @@ use Rattle.definition.specs.declared.Range.{Range}
 use Rattle.definition.specs.declared.Action.{Action}
 use Rattle.definition.specs.declared.MemoryInitKind.{MemoryInitKind}
 use Rattle.definition.specs.declared.MemoryInitKind.the-variants.{ImplicitlyInitialized, NeedsInitializedMemory}
-use Rattle.lists.specs.Records.{recordAt, records}
+use Rattle.laws.specs.Records.{recordAt, records}
 
 -- A surface and its three numbers.
 unfoldable pub decodeSurface : List ℕ → Surface

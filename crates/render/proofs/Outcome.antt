@@ -20,14 +20,14 @@ use Rattle.laws.specs.Room.{listedByAll}
 use Rattle.laws.proofs.Tests.{clash, cond-on, cond-off}
 use Rattle.laws.proofs.Verdicts.{then-left, then-right, then-stop, then-go, unless-on}
 use Rattle.laws.proofs.Room.{pass-listed}
-use Rattle.lists.specs.Records.{records}
-use Rattle.lists.proofs.Records.{records-length}
+use Rattle.laws.specs.Records.{records}
+use Rattle.laws.proofs.Records.{records-length}
 use Rattle.records.specs.Lent.{decodeSurface, decodeAction}
 use Rattle.memory_init.specs.declared.Counts.{Counts}
 use Rattle.memory_init.specs.Lent.{held, Within, Spared}
 use Rattle.memory_init.proofs.Registration.{spared-none}
 use Rattle.readable.proofs.Valid.{valid-pass}
-use Rattle.course.proofs.Room.{Fit, fit-first}
+use Rattle.room.proofs.Room.{Fit, fit-first}
 use Rattle.recording.specs.Recorded.{Fitting, Recorded}
 use Rattle.recording.proofs.Recorded.{fitting-as}
 use Rattle.render.specs.declared.PassReply.{PassReply}

@@ -12,8 +12,8 @@ use Rattle.definition.specs.declared.Slot.{Slot}
 use Rattle.definition.specs.declared.Seen.{Seen}
 use Rattle.definition.specs.declared.Surface.{Surface}
 use Rattle.memory_init.specs.declared.Counts.{Counts}
-use Rattle.replies.specs.declared.Attachments.{Attachments}
-use Rattle.replies.specs.Records.{listed}
+use Rattle.render.specs.declared.replies.Attachments.{Attachments}
+use Rattle.render.specs.Records.{listed}
 use Rattle.render.specs.Outcome.{replied, acceptedReply, acceptedOutcome}
 
 -- ── at most seventeen

@@ -13,7 +13,7 @@ use Rattle.definition.specs.declared.Seen.{Seen}
 use Rattle.definition.specs.declared.Verdict.{Verdict}
 use Rattle.memory_init.specs.declared.Counts.{Counts}
 use Rattle.memory_init.specs.Lent.{held, Within, Spared}
-use Rattle.replies.specs.Records.{listed}
+use Rattle.render.specs.Records.{listed}
 use Rattle.render.specs.declared.PassReply.{PassReply}
 use Rattle.render.specs.declared.PassOutcome.{PassOutcome}
 

@@ -1,5 +1,8 @@
 // The check of one pass: numbers 5 and 10 to 50, the reply, and what it leaves in the lent lists (RenderPassInfo).
 // It decides first and writes last: judging writes no lent list, and only an accepted pass is recorded.
+// In `replies`: the attachments of a reply.
+pub mod replies;
+
 use attachments::DepthStencilPart;
 use attachments::depth_stencil_part;
 use colors::depth_stencil_step;
@@ -7,9 +10,13 @@ use colors::slot_steps;
 use definition::Progress;
 use definition::Seen;
 use definition::Verdict;
+use definition::verdicts::NOWHERE;
+use definition::verdicts::fine;
+use definition::verdicts::is_fine;
+use definition::verdicts::refused_at;
+use definition::verdicts::then;
 use descriptor::fill_arc_desc;
 use memory_init::Counts;
-use multiview::mask_verdict;
 use readable::pass_reads;
 use recording::add_attachments;
 use replies::Attachments;
@@ -17,11 +24,7 @@ use replies::no_attachments;
 use replies::render_attachments;
 use room::room_verdict;
 use session::mask;
-use verdict::NOWHERE;
-use verdict::fine;
-use verdict::is_fine;
-use verdict::refused_at;
-use verdict::then;
+use views::mask::mask_verdict;
 use views::none_seen;
 ghost use mathlib.Core.Path.{_≡_};
 ghost use mathlib.Core.Bool.{true};

@@ -14,13 +14,13 @@ use Rattle.definition.specs.Pass.{discardsFit, roomVerdict}
 use Rattle.definition.specs.declared.Slot.{Slot}
 use Rattle.definition.specs.declared.Verdict.{Verdict}
 use Rattle.laws.proofs.Folds.{parts-turn}
-use Rattle.lists.proofs.Records.{records-length}
+use Rattle.laws.proofs.Records.{records-length}
 use Rattle.records.specs.Lent.{decodeAction, surfaces, actions}
 use Rattle.memory_init.specs.Lent.{initKind}
-use Rattle.course.specs.declared.Course.{Course}
-use Rattle.course.specs.Course.{Counted, Tracks}
-use Rattle.course.proofs.Tracking.{counted-exact}
-use Rattle.course.proofs.Room.{tracks-attach, room-told}
+use Rattle.room.specs.declared.course.Course.{Course}
+use Rattle.room.specs.Course.{Counted, Tracks}
+use Rattle.room.proofs.Tracking.{counted-exact}
+use Rattle.room.proofs.Room.{tracks-attach, room-told}
 use Rattle.attachments.specs.declared.Planned.{Planned}
 use Rattle.attachments.specs.Attached.{PlannedAs}
 use Rattle.room.specs.Going.{Follows, Goes}

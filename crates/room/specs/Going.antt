@@ -5,8 +5,8 @@ use Rattle.definition.specs.Sizes.{maxDiscards}
 use Rattle.definition.specs.MemoryInit.{Lists}
 use Rattle.definition.specs.Attachments.{Attached, attachAll}
 use Rattle.definition.specs.Pass.{discardsFit}
-use Rattle.course.specs.declared.Course.{Course}
-use Rattle.course.specs.Course.{Tracks}
+use Rattle.room.specs.declared.course.Course.{Course}
+use Rattle.room.specs.Course.{Tracks}
 
 -- The course has followed the attachments xs, from the lists l.
 abbrev pub Follows : Course → List ℕ → List Attached → Lists → Type 0

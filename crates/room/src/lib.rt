@@ -1,5 +1,7 @@
 // Numbers 49 and 50: whether the lists have room for a pass, told before any lent list is written.
-// The discards' course through the attachments is followed on a copy.
+// The discards' course through the attachments is followed on a copy, step by step in `course`.
+pub mod course;
+
 use attachments::DepthStencilPart;
 use attachments::Planned;
 use attachments::color_planned;
@@ -10,13 +12,13 @@ use course::begin;
 use course::follow;
 use definition::Slot;
 use definition::Verdict;
+use definition::verdicts::NOWHERE;
+use definition::verdicts::then;
+use definition::verdicts::unless;
 use memory_init::Counts;
 use session::colors;
 use session::derived::is_none;
 use session::slot;
-use verdict::NOWHERE;
-use verdict::then;
-use verdict::unless;
 ghost use mathlib.Core.Path.{_≡_};
 ghost use mathlib.Core.List.{List, _∷_, []};
 ghost use Prim.Native.Nat.{ℕ, _≤_};

@@ -15,8 +15,8 @@ use Rattle.definition.specs.Submission.{submitLists}
 use Rattle.definition.specs.Calls.{noEntries}
 use Rattle.definition.specs.Program.{line, endsBuffer, nextLists, lines}
 use Rattle.laws.proofs.Tests.{cond-on, cond-off}
-use Rattle.lists.specs.Records.{records}
-use Rattle.lists.proofs.Records.{records-length}
+use Rattle.laws.specs.Records.{records}
+use Rattle.laws.proofs.Records.{records-length}
 use Rattle.records.specs.Lent.{decodeSurface}
 use Rattle.memory_init.specs.declared.Counts.{Counts}
 use Rattle.memory_init.specs.Lent.{held, Within}

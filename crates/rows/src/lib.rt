@@ -5,7 +5,7 @@ use memory_init::Counts;
 use render::PassReply;
 use render::check_pass;
 use session::ends;
-use session::pass_count;
+use session::header::pass_count;
 ghost use mathlib.Core.Path.{_≡_};
 ghost use Prim.Native.Nat.{_+_, _*_, _≤_, _<_};
 ghost use lib.ListN.{length, drop};

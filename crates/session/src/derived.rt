@@ -1,10 +1,10 @@
 // What is derived from the header and rows of a session file. No function has a `requires`.
-use crate::flags;
+use crate::formats::mip_size;
+use crate::header::flags;
 use crate::texture;
 use definition::Range;
 use definition::Texture;
 use definition::View;
-use formats::mip_size;
 use wire::has_bit;
 ghost use mathlib.Core.Path.{_≡_};
 ghost use Rattle.definition.specs.Session as Se;

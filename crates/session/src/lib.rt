@@ -1,10 +1,19 @@
 // The header and rows of a session file, by value. Every byte string and every number has
 // an answer, since a byte past the end reads as 0. No public function has a `requires`.
+// In `header` its fields, in `derived` and `surfaces` what follows from the rows, in `formats` the formats that they name.
+pub mod derived;
+pub mod formats;
+pub mod header;
+pub mod surfaces;
+
 use definition::Channel;
 use definition::Color;
 use definition::Slot;
 use definition::Texture;
 use definition::View;
+use header::TEXTURE_COUNT;
+use header::VIEW_COUNT;
+use header::texture_count;
 use wire::eight_at;
 use wire::f64_of_halves;
 use wire::u32_at;
@@ -13,8 +22,6 @@ ghost use Prim.Native.Nat.{_+_, _*_, _≤_};
 ghost use Rattle.definition.specs.Session as Se;
 ghost use Rattle.definition.specs.Session.{session};
 ghost use Rattle.session.specs.Rows.{viewAfter, passRow, slotRow, viewsOf};
-
-pub mod derived;
 
 // The views of a colour slot and the slice of its colour view.
 pub struct SlotViews {
@@ -41,36 +48,6 @@ const SLOT_START: usize = 56;
 // Bytes of a colour slot.
 const SLOT_BYTES: usize = 56;
 
-// Where the header's texture count stands.
-const TEXTURE_COUNT: usize = 0;
-
-// Where its texture offset stands.
-pub const TEXTURE_OFFSET: usize = 4;
-
-// Where its view count stands.
-const VIEW_COUNT: usize = 8;
-
-// Where its view offset stands.
-pub const VIEW_OFFSET: usize = 12;
-
-// Where its pass count stands.
-const PASS_COUNT: usize = 16;
-
-// Where its pass offset stands.
-pub const PASS_OFFSET: usize = 20;
-
-// Where its maximum of colours stands.
-const MAX_COLORS: usize = 24;
-
-// Where its maximum of multiview views stands.
-const MAX_MULTIVIEW: usize = 28;
-
-// Where its flags stand.
-const FLAGS: usize = 32;
-
-// Where its total length stands.
-pub const TOTAL_LENGTH: usize = 36;
-
 // Where a pass row's multiview mask stands, after the colour count.
 const MASK: usize = 4;
 
@@ -88,48 +65,6 @@ const STENCIL: u32 = 36;
 
 // Where a slot's clear value starts.
 const SLOT_CLEAR: usize = 24;
-
-// The number of texture rows.
-pub fn texture_count(s: &[u8]) -> u32
-    ensures { λ r. ⌜ r ≡ session (now (s .entry)) .textureCount ⌝ }
-{
-    u32_at(s, TEXTURE_COUNT)
-}
-
-// The number of view rows.
-pub fn view_count(s: &[u8]) -> u32
-    ensures { λ r. ⌜ r ≡ session (now (s .entry)) .viewCount ⌝ }
-{
-    u32_at(s, VIEW_COUNT)
-}
-
-// The number of pass rows.
-pub fn pass_count(s: &[u8]) -> u32
-    ensures { λ r. ⌜ r ≡ session (now (s .entry)) .passCount ⌝ }
-{
-    u32_at(s, PASS_COUNT)
-}
-
-// The most colours of a pass.
-pub fn max_colors(s: &[u8]) -> u32
-    ensures { λ r. ⌜ r ≡ session (now (s .entry)) .maxColors ⌝ }
-{
-    u32_at(s, MAX_COLORS)
-}
-
-// The most views of a multiview pass.
-pub fn max_multiview(s: &[u8]) -> u32
-    ensures { λ r. ⌜ r ≡ session (now (s .entry)) .maxMultiview ⌝ }
-{
-    u32_at(s, MAX_MULTIVIEW)
-}
-
-// The flags field.
-pub fn flags(s: &[u8]) -> u32
-    ensures { λ r. ⌜ r ≡ session (now (s .entry)) .flags ⌝ }
-{
-    u32_at(s, FLAGS)
-}
 
 // Where the view rows start: after the textures.
 pub fn view_start(s: &[u8]) -> usize

@@ -26,8 +26,8 @@ use Rattle.laws.proofs.Surfaces.{within-none, within-one}
 use Rattle.laws.proofs.Status.{act-twice}
 use Rattle.laws.proofs.Places.{surfaces-counted, place-counted}
 use Rattle.laws.proofs.Submission.{sweep-length, sweep-past, sweep-turn, sweep-same, sweep-either, sweep-only, sweeps-append, empties-append, submit-sweeps}
-use Rattle.lists.specs.Records.{records}
-use Rattle.lists.proofs.Records.{records-suc}
+use Rattle.laws.specs.Records.{records}
+use Rattle.laws.proofs.Records.{records-suc}
 use Rattle.records.specs.Lent.{decodeSurface, decodeAction, actionOf, surfaces, surfaceIn, actions, actionIn}
 use Rattle.submission.specs.Runs.{run, rows}
 

@@ -1,8 +1,17 @@
-// One view as an attachment of a pass: numbers 30 to 36, what it fixes for the views after it, and 41 (overlap).
+// One view as an attachment of a pass: numbers 30 to 36, what it fixes for the views after it, and 41 (overlap); the mask: 46, 31 and 47.
 // Every function is total, and its contract is an equation with the definition.
+pub mod mask;
+pub mod overlap;
+
 use definition::Seen;
 use definition::Verdict;
 use definition::View;
+use definition::verdicts::AT_DEPTH_STENCIL;
+use definition::verdicts::NOWHERE;
+use definition::verdicts::either;
+use definition::verdicts::then;
+use definition::verdicts::unless;
+use definition::verdicts::unless_against;
 use session::derived::height_of;
 use session::derived::is_d2;
 use session::derived::is_d2_array;
@@ -11,18 +20,10 @@ use session::derived::multiview;
 use session::derived::render_attachment;
 use session::derived::samples_of;
 use session::derived::width_of;
-use session::max_multiview;
-use verdict::AT_DEPTH_STENCIL;
-use verdict::NOWHERE;
-use verdict::either;
-use verdict::then;
-use verdict::unless;
-use verdict::unless_against;
+use session::header::max_multiview;
 ghost use mathlib.Core.Path.{_≡_};
 ghost use Rattle.definition.specs.Session.{session};
 ghost use Rattle.definition.specs.Views as Vw;
-
-pub mod overlap;
 
 // Before the first view.
 pub fn none_seen() -> Seen

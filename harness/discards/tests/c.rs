@@ -21,7 +21,7 @@ fn a_c_caller_gets_the_same_answers() {
     gcc.args(["-std=c11", "-Wall", "-Wextra", "-Wpedantic", "-Werror"]);
     gcc.arg("-I").arg(repository.join("include"));
     gcc.arg(repository.join("harness/c/discards.c"));
-    gcc.arg(repository.join("target/staticlib/libtexture_surface_discards.a"));
+    gcc.arg(repository.join("target/staticlib/libmemory_init.a"));
     gcc.arg("-o").arg(&program);
     printed(&mut gcc);
     let lines = "2 listed, 2 with no room\n1 stays: 4 0 7\n";

@@ -2,8 +2,8 @@
 use Rattle.definition.specs.Channel.{depthChannel, stencilChannel}
 use Rattle.definition.specs.Check.{channelOps}
 use Rattle.channel.proofs.Resolve.{transient-of}
-use Rattle.depth_channel.specs.Depth as De
-use Rattle.stencil_channel.specs.Stencil as St
+use Rattle.depth_stencil.specs.Depth as De
+use Rattle.depth_stencil.specs.Stencil as St
 use borrow.Author.Needs.{needs}
 use Rattle.descriptor.proofs.channel_ops.Statement.{statement}
 use Rattle.descriptor.proofs.channel_ops.Tie as tie

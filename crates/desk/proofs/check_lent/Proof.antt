@@ -6,7 +6,7 @@ use borrow.Author.Needs.{needs}
 use borrow.Author.Tests.{not-true, not-false}
 use Rattle.records.specs.Lent.{decodeSurface}
 use Rattle.memory_init.specs.declared.Counts.{Counts}
-use Rattle.lent_state.proofs.Lent.{unpacked-all}
+use Rattle.lent.proofs.Packing.{unpacked-all}
 use Rattle.render.specs.Outcome.{maxAdded}
 use Rattle.desk.proofs.Passed.{added-few, passed-refused, passed-full, passed-accepted}
 use Rattle.desk.proofs.check_lent.Statement.{statement}

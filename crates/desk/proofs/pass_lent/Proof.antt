@@ -4,7 +4,7 @@ use mathlib.Core.Bool.{true}
 use native.Mathlib.Omega.{arith}
 use borrow.Author.Needs.{needs}
 use borrow.Author.Tests.{not-true, not-false}
-use Rattle.lent_state.proofs.Lent.{not-short}
+use Rattle.lent.proofs.Packing.{not-short}
 use Rattle.desk.proofs.Passed.{passed-not-lent, passed-none}
 use Rattle.desk.proofs.pass_lent.Statement.{statement}
 use Rattle.desk.proofs.pass_lent.Tie as tie

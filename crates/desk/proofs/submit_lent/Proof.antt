@@ -9,9 +9,9 @@ use Rattle.records.specs.Lent.{decodeSurface, decodeAction}
 use Rattle.memory_init.specs.declared.Counts.{Counts}
 use Rattle.memory_init.specs.Lent.{Within}
 use Rattle.readable.proofs.Valid.{valid-of}
-use Rattle.lent_state.specs.Lent.{stateIn}
-use Rattle.lent_right.specs.Lent.{Long}
-use Rattle.lent_state.proofs.Lent.{not-short, unpacked-all}
+use Rattle.lent.specs.State.{stateIn}
+use Rattle.lent.specs.Right.{Long}
+use Rattle.lent.proofs.Packing.{not-short, unpacked-all}
 use Rattle.submission.proofs.Lent.{right-submits}
 use Rattle.desk.proofs.Sent.{sent-not-lent, sent-all}
 use Rattle.desk.proofs.submit_lent.Statement.{statement}

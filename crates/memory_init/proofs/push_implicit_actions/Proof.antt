@@ -8,7 +8,7 @@ use lib.ListN.{length}
 use lib.Seq.{sets}
 use Rattle.definition.specs.Surfaces.{hits, onlyRange}
 use Rattle.definition.specs.MemoryInit.{implicitAt, matching}
-use Rattle.lists.proofs.Extend.{Extending, extend-start, extend-room, extend-adds, extend-skips, extend-done}
+use Rattle.laws.proofs.Extend.{Extending, extend-start, extend-room, extend-adds, extend-skips, extend-done}
 use Rattle.definition.specs.declared.MemoryInitKind.the-variants.{ImplicitlyInitialized}
 use Rattle.records.specs.Lent.{decodeSurface, decodeAction, encodeAction, surfaces}
 use Rattle.records.proofs.Numbers.{action-written}

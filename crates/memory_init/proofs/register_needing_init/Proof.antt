@@ -1,6 +1,6 @@
 -- The four parts, list by list, are the registration.
 use native.Mathlib.Omega.{arith}
-use Rattle.lists.proofs.Records.{append-count}
+use Rattle.laws.proofs.Records.{append-count}
 use Rattle.records.specs.Lent.{decodeAction}
 use Rattle.memory_init.proofs.Registration.{needing-leaves, needing-actions, needing-clears}
 use borrow.Author.Needs.{needs}

@@ -6,7 +6,7 @@ use mathlib.Core.Logic.{⊎-elim}
 use mathlib.Core.Bool.{not}
 use Prim.Native.Nat.{_-_}
 use Rattle.definition.specs.Surfaces.{hits}
-use Rattle.lists.proofs.Compact.{Compacting, compact-start, compact-keeps, compact-passes, compact-done}
+use Rattle.laws.proofs.Compact.{Compacting, compact-start, compact-keeps, compact-passes, compact-done}
 use Rattle.records.specs.Lent.{decodeSurface}
 use Rattle.records.proofs.Numbers.{surface-written}
 use Rattle.memory_init.proofs.retain_others.Statement.{statement}

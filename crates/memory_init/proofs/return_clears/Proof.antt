@@ -7,7 +7,7 @@ use Prim.Native.Nat.{_+_, _-_, _≤_}
 use lib.ListN.{length}
 use Rattle.definition.specs.Surfaces.{hits}
 use Rattle.definition.specs.MemoryInit.{matching}
-use Rattle.lists.proofs.Extend.{Extending, extend-start, extend-room, extend-adds, extend-skips, extend-done}
+use Rattle.laws.proofs.Extend.{Extending, extend-start, extend-room, extend-adds, extend-skips, extend-done}
 use mathlib.Core.List.{_++_, map-id}
 use Rattle.records.specs.Lent.{decodeSurface, surfaces}
 use Rattle.records.proofs.Numbers.{surface-written}

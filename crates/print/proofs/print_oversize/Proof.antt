@@ -3,7 +3,7 @@ use mathlib.Core.Path.{sym, subst, _∙_}
 use Prim.Native.Nat.{_<_}
 use native.Mathlib.Omega.{arith}
 use borrow.Author.Needs.{needs}
-use Rattle.oversize.specs.Most.{mostBytes}
+use Rattle.print.specs.Most.{mostBytes}
 use Rattle.print.proofs.Printed.{front-length, printed-refusal, long-not-readable}
 use Rattle.print.proofs.print_oversize.Statement.{statement}
 use Rattle.print.proofs.print_oversize.Tie as tie

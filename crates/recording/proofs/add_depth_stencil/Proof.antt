@@ -5,7 +5,7 @@ use mathlib.Core.List.{[]}
 use lib.ListN.{length}
 use Rattle.definition.specs.MemoryInit.{applyPlan}
 use Rattle.memory_init.specs.Lent.{held, initKind}
-use Rattle.course.proofs.Room.{Fit}
+use Rattle.room.proofs.Room.{Fit}
 use Rattle.recording.specs.Recorded.{Fitting, Recorded}
 use Rattle.attachments.proofs.Slots.{by-absent, by-present}
 use Rattle.recording.proofs.Recorded.{recorded-none, fitting-planned}

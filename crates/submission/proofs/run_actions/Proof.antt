@@ -9,7 +9,7 @@ use Rattle.laws.specs.Surfaces.{RangeInside}
 use Rattle.laws.specs.Submission.{sweepActs}
 use Rattle.laws.proofs.Surfaces.{range-inside}
 use Rattle.records.specs.Lent.{actions, actionIn}
-use Rattle.lent_right.proofs.Turns.{actions-each}
+use Rattle.lent.proofs.Turns.{actions-each}
 use Rattle.submission.proofs.Sweeps.{actions-none, action-further}
 use Rattle.submission.proofs.run_actions.Statement.{statement}
 use Rattle.submission.proofs.run_actions.Tie as tie

@@ -11,7 +11,7 @@ use Rattle.laws.specs.Submission.{sweep, emptyAt}
 use Rattle.laws.proofs.Surfaces.{surface-inside}
 use Rattle.laws.proofs.Places.{place-counted}
 use Rattle.records.specs.Lent.{surfaces, surfaceIn}
-use Rattle.lent_right.proofs.Turns.{surfaces-each}
+use Rattle.lent.proofs.Turns.{surfaces-each}
 use Rattle.submission.proofs.Sweeps.{discards-none, discard-further}
 use Rattle.submission.proofs.run_discards.Statement.{statement}
 use Rattle.submission.proofs.run_discards.Tie as tie

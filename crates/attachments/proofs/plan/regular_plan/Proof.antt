@@ -1,0 +1,12 @@
+-- What each call promises, put together as the definition puts it together.
+use borrow.Author.Needs.{needs}
+use Rattle.channel.specs.Kind.{operationsIn}
+use Rattle.attachments.proofs.Plans.{regular}
+use Rattle.attachments.proofs.plan.regular_plan.Statement.{statement}
+use Rattle.attachments.proofs.plan.regular_plan.Tie as tie
+
+returns : tie.Need-returns
+returns c = regular (c .init-actions .result) (operationsIn (c .before .before .before .args .ops)) _ _ (c .before .before .loads .ensures) (c .before .stores .ensures) (c .init-actions .ensures)
+
+pub regular-plan-spec : {M : Type 1} → statement M
+regular-plan-spec = tie.close (tie.spec (λ c κs. search needs) (λ c κs. search needs) (λ c κs. search needs) returns)

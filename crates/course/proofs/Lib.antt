@@ -1,2 +1,0 @@
-pub mod Tracking
-pub mod Room

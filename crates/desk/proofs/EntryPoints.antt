@@ -1,0 +1,2 @@
+-- Why demand 3 holds of the C functions.
+pub mod Theorem

@@ -1,0 +1,54 @@
+-- Demand 3 of any run of the C functions from fresh buffers: the memory is told what a caller reads in the replies and the buffers.
+use Prim.Native.Nat.{ℕ, _<_}
+use mathlib.Core.Path.{_≡_}
+use mathlib.Core.Logic.{_≢_}
+use mathlib.Core.Bool.{true}
+use mathlib.Core.List.{List, []}
+use mathlib.Core.Option.{none}
+use lib.ListN.{take}
+use Rattle.definition.specs.Session.{session, strict}
+use Rattle.definition.specs.Readable.{sessionRefusal}
+use Rattle.definition.specs.Status.{filled}
+use Rattle.definition.specs.Calls.{Call, called}
+use Rattle.definition.specs.declared.Surface.{Surface}
+use Rattle.laws.specs.Surfaces.{Inside}
+use Rattle.laws.specs.Noninterference.Memory.{Cells, Drawing, Contents, events, byteOf, loaded, cells}
+use Rattle.laws.specs.Noninterference.Claim.{submittedFrom, lastUse, kept, Agree}
+use Rattle.desk.specs.EntryPoints.Run.{Buffers, heldIn, Fresh, Turn, entryOf, Run, buffersAfter, answersIn}
+
+-- A surface's status byte after the first n calls.
+abbrev pub byteAfterCalls : List ℕ → Buffers → List Turn → ℕ → Surface → ℕ
+byteAfterCalls s b ts n x = byteOf (session s) (buffersAfter b ts n .status) x
+
+-- What the passes load or clear to, and the memory after the first n calls.
+abbrev pub loadedIn : {Val : Type 0} → Drawing Val → Contents Val → List ℕ → List Turn → List (List Val)
+loadedIn D c s ts = loaded D (c .left) (session s) (events (session s) 0 (answersIn ts)) [] (c .first)
+
+abbrev pub memoryIn : {Val : Type 0} → Drawing Val → Contents Val → List ℕ → List Turn → ℕ → Cells Val
+memoryIn D c s ts n = cells D (c .left) (session s) (events (session s) 0 (take n (answersIn ts))) [] (c .first)
+
+-- Two runs with the same drawing over the same calls; the contents at the start and after each discard are c in one and c′ in the other.
+pub record HiddenIn {Val : Type 0} (D : Drawing Val) (c c′ : Contents Val) (s : List ℕ) (b : Buffers) (ts : List Turn) : Type 0 where
+  -- They load equal values everywhere.
+  pub loads : loadedIn D c s ts ≡ loadedIn D c′ s ts
+  -- After the first n calls, filled are exactly the surfaces that some submitted pass had and that the last such pass kept in some aspect,
+  pub marks : (n : ℕ) (x : Surface) → Inside (session s) x
+      → filled (byteAfterCalls s b ts n x) ≡ kept (lastUse none (submittedFrom (events (session s) 0 (take n (answersIn ts))) [] []) x)
+  -- and these are equal in both.
+  pub equal : (n : ℕ) (x : Surface) → Inside (session s) x → filled (byteAfterCalls s b ts n x) ≡ true
+      → Agree (session s) x (memoryIn D c s ts n) (memoryIn D c′ s ts n)
+
+abbrev pub DemandThreeOfCalls : Type 1
+DemandThreeOfCalls =
+    (s : List ℕ) → sessionRefusal s ≡ 0
+    → strict (session s) ≡ true
+    → ((k : ℕ) → k < session s .viewCount → session s .view k .layers ≡ 1)
+    → ((t : ℕ) → t < session s .textureCount → session s .texture t .dimension ≢ 3)
+    → (b : Buffers) → Fresh b → (ts : List Turn) → Run s b ts
+    → (Val : Type 0) (D : Drawing Val) (c c′ : Contents Val) → HiddenIn D c c′ s b ts
+
+-- From fresh buffers number 6 never arises: after any calls, every call is the definition's, of what is lent.
+abbrev pub NeverSixOfCalls : Type 0
+NeverSixOfCalls =
+    (s : List ℕ) → sessionRefusal s ≡ 0 → (b : Buffers) → Fresh b → (ts : List Turn) → Run s b ts
+    → (n : ℕ) (k : Call) → entryOf s k (buffersAfter b ts n) ≡ called (session s) k (heldIn (buffersAfter b ts n))

@@ -1,1 +1,0 @@
--- What the functions mean is in the definition, module Formats.

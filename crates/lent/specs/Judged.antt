@@ -1,0 +1,28 @@
+-- What is decided of the bytes that are lent. And what packing leaves.
+use Prim.Native.Nat.{ℕ, _+_, _*_}
+use mathlib.Core.Path.{_≡_}
+use mathlib.Core.Bool.{Bool, true}
+use mathlib.Core.List.{List, _++_}
+use lib.ListN.{take, drop}
+use Rattle.definition.specs.Session.{session}
+use Rattle.memory_init.specs.Lent.{Within}
+use Rattle.lent.specs.Numbers.{numbersAt}
+use Rattle.lent.specs.Packed.{listBytes, countIn, numbersIn}
+use Rattle.lent.specs.Right.{countsIn, right}
+use Rattle.lent.specs.declared.state.LentCounts.{LentCounts}
+
+-- Number 6 of the bytes.
+abbrev pub rightIn : List ℕ → List ℕ → List ℕ → List ℕ → List ℕ → Bool
+rightIn s d a c status = right (session s) (countsIn d a c) (numbersIn 3 d) (numbersIn 6 a) (numbersIn 3 c) status
+
+-- r says whether all that is lent is right, and how many entries each list has.
+pub record Judged (s d a c status : List ℕ) (r : LentCounts) : Type 0 where
+  pub decided : r .right ≡ rightIn s d a c status
+  pub counts : r .counts ≡ countsIn d a c
+  pub within : r .right ≡ true → Within (r .counts)
+
+-- n records of k numbers of the list xs are packed behind the first `held` of the bytes b; the bytes past them stay.
+pub record Packed (k held n : ℕ) (xs b b′ : List ℕ) : Type 0 where
+  pub count : countIn b′ ≡ held + n
+  pub numbers : numbersAt b′ 4 (k * (held + n)) ≡ numbersAt b 4 (k * held) ++ take (k * n) xs
+  pub rest : drop (listBytes k (held + n)) b′ ≡ drop (listBytes k (held + n)) b

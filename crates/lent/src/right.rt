@@ -1,0 +1,169 @@
+// Number 6: whether the counts, the records and the status bytes that a caller lends are within range.
+// Each test is the definition's, of the lists that the lent bytes stand for, and reads a record where it stands in them.
+use definition::Range;
+use definition::Surface;
+use memory_init::Counts;
+use records::layers_of;
+use session::derived::array_layers;
+use session::header::texture_count;
+use session::surfaces::surfaces_before;
+use session::texture;
+use wire::u32_at;
+use wire::u32_inside;
+ghost use mathlib.Core.Path.{_≡_};
+ghost use Prim.Native.Nat.{ℕ, _+_, _*_, _≤_, _<_};
+ghost use lib.Dec.{leb};
+ghost use lib.ListN.{length};
+ghost use Rattle.definition.specs.Session.{session, surfaceCount};
+ghost use Rattle.definition.specs.Sizes.{maxSurfaces};
+ghost use Rattle.definition.specs.Calls.{surfaceRight, rangeRight, surfacesRight, actionsRight, bytesRight};
+ghost use Rattle.records.specs.Lent.{surfaces, actions, surfaceIn, actionIn};
+ghost use Rattle.lent.specs.Numbers.{numbersAt};
+ghost use Rattle.lent.specs.Packed.{listBytes, numbersIn};
+ghost use Rattle.lent.specs.Right.{countsFit, countsIn, right, Long};
+
+// The session has the surface.
+pub fn surface_right(s: &[u8], x: Surface) -> bool
+    ensures { λ r. ⌜ r ≡ surfaceRight (session (now (s .entry))) x ⌝ }
+{
+    let t = texture(s, x.texture);
+    (x.texture < texture_count(s)) & (x.mip < t.mips) & (x.layer < array_layers(t))
+}
+
+// The first number and so many more end by the last. The sum of two u32 fits a u64.
+fn ends_by(first: u32, count: u32, last: u32) -> bool
+    ensures { λ r. ⌜ r ≡ leb (first + count) last ⌝ }
+{
+    (first as u64) + (count as u64) <= (last as u64)
+}
+
+// The session has the range, and the range is not empty.
+pub fn range_right(s: &[u8], x: Range) -> bool
+    ensures { λ r. ⌜ r ≡ rangeRight (session (now (s .entry))) x ⌝ }
+{
+    let t = texture(s, x.texture);
+    let layers = array_layers(t);
+    (x.texture < texture_count(s))
+        & (1 <= x.mips)
+        & ends_by(x.mip, x.mips, t.mips)
+        & (1 <= x.layers)
+        & ends_by(x.layer, x.layers, layers)
+}
+
+// The surface at place i of a lent list, which lies inside.
+pub fn surface_in(b: &[u8], i: usize) -> Surface
+    requires { ⌜ listBytes 3 (i + 1) ≤ length (now b) ⌝ }
+    ensures { λ r. ⌜ ((n : ℕ) → i < n → r ≡ surfaceIn i (numbersAt (now (b .entry)) 4 (3 * n))) ⌝ }
+{
+    let at = 4 + 12 * i;
+    Surface {
+        texture: u32_inside(b, at),
+        mip: u32_inside(b, at + 4),
+        layer: u32_inside(b, at + 8),
+    }
+}
+
+// The range of the action at place i of a lent list, which lies inside.
+pub fn range_in(b: &[u8], i: usize) -> Range
+    requires { ⌜ listBytes 6 (i + 1) ≤ length (now b) ⌝ }
+    ensures { λ r. ⌜ ((n : ℕ) → i < n → r ≡ actionIn i (numbersAt (now (b .entry)) 4 (6 * n)) .range) ⌝ }
+{
+    let at = 4 + 24 * i;
+    Range {
+        texture: u32_inside(b, at),
+        mip: u32_inside(b, at + 4),
+        mips: u32_inside(b, at + 8),
+        layer: u32_inside(b, at + 12),
+        layers: layers_of(u32_inside(b, at + 20), u32_inside(b, at + 16)),
+    }
+}
+
+// The first n surfaces of a lent list.
+pub fn surfaces_right(s: &[u8], b: &[u8], n: usize) -> bool
+    requires { ⌜ listBytes 3 n ≤ length (now b) ⌝ }
+    ensures { λ r. ⌜ r ≡ surfacesRight (session (now (s .entry))) (surfaces n (numbersAt (now (b .entry)) 4 (3 * n))) ⌝ }
+{
+    let mut ok = true;
+    let mut i: usize = 0;
+    while i < n {
+        ok = ok & surface_right(s, surface_in(b, i));
+        i += 1;
+    }
+    ok
+}
+
+// The ranges of the first n actions of a lent list.
+pub fn actions_right(s: &[u8], b: &[u8], n: usize) -> bool
+    requires { ⌜ listBytes 6 n ≤ length (now b) ⌝ }
+    ensures { λ r. ⌜ r ≡ actionsRight (session (now (s .entry))) (actions n (numbersAt (now (b .entry)) 4 (6 * n))) ⌝ }
+{
+    let mut ok = true;
+    let mut i: usize = 0;
+    while i < n {
+        ok = ok & range_right(s, range_in(b, i));
+        i += 1;
+    }
+    ok
+}
+
+// The first n status bytes.
+pub fn bytes_right(status: &[u8], n: usize) -> bool
+    requires { ⌜ n ≤ length (now status) ⌝ }
+    ensures { λ r. ⌜ r ≡ bytesRight n (now (status .entry)) ⌝ }
+{
+    let mut ok = true;
+    let mut i: usize = 0;
+    while i < n {
+        ok = ok & (status[i] <= 3);
+        i += 1;
+    }
+    ok
+}
+
+// The counts of three lent lists.
+pub fn counts_of(discards: &[u8], actions: &[u8], clears: &[u8]) -> Counts
+    ensures { λ r. ⌜ r ≡ countsIn (now (discards .entry)) (now (actions .entry)) (now (clears .entry)) ⌝ }
+{
+    Counts {
+        discards: u32_at(discards, 0) as usize,
+        actions: u32_at(actions, 0) as usize,
+        clears: u32_at(clears, 0) as usize,
+    }
+}
+
+// The counts are within the room of the lists.
+pub fn counts_right(n: Counts) -> bool
+    ensures { λ r. ⌜ r ≡ countsFit n ⌝ }
+{
+    (n.discards <= 64) & (n.actions <= 512) & (n.clears <= 80)
+}
+
+// How many surfaces a session has that is not refused.
+pub fn surface_count(s: &[u8]) -> usize
+    requires { ⌜ surfaceCount (session (now s)) ≤ maxSurfaces ⌝ }
+    ensures { λ r. ⌜ r ≡ surfaceCount (session (now (s .entry))) ⌝ }
+{
+    surfaces_before(s, texture_count(s)) as usize
+}
+
+// Everything that is lent. Records are looked at where the counts are within the room.
+pub fn lent_right(
+    s: &[u8],
+    discards: &[u8],
+    actions: &[u8],
+    clears: &[u8],
+    n: Counts,
+    status: &[u8],
+) -> bool
+    requires { ⌜ n ≡ countsIn (now discards) (now actions) (now clears) ⌝ }
+    requires { ⌜ Long (now discards) (now actions) (now clears) (now status) × (surfaceCount (session (now s)) ≤ maxSurfaces) ⌝ }
+    ensures { λ r. ⌜ r ≡ right (session (now (s .entry))) n (numbersIn 3 (now (discards .entry))) (numbersIn 6 (now (actions .entry))) (numbersIn 3 (now (clears .entry))) (now (status .entry)) ⌝ }
+{
+    if !counts_right(n) {
+        return false;
+    }
+    surfaces_right(s, discards, n.discards)
+        & actions_right(s, actions, n.actions)
+        & surfaces_right(s, clears, n.clears)
+        & bytes_right(status, surface_count(s))
+}

@@ -1,0 +1,54 @@
+-- A header that is right has its passes end at or before the longest session's end, so that a longer file is refused as 1 or 2.
+use mathlib.Core.Path.{_≡_, refl, ap, _∙_}
+use mathlib.Core.Bool.{Bool, true, false, _&&_, cond}
+use mathlib.Core.List.{List, [], _∷_}
+use Prim.Native.Nat.{ℕ, _<_, _≤_}
+use native.Mathlib.Omega.{arith}
+use lib.Dec.{leb, eqb}
+use lib.ListN.{length}
+use borrow.Author.Tests.{leb-true, eqb-true, le-leb}
+use Rattle.definition.specs.Sizes.{headerBytes, maxTextures, maxViews, maxPasses, maxSlots, maxMultiviews, maxFlags}
+use Rattle.definition.specs.Session.{session, textureCount, textureOffset, viewCount, viewOffset, passCount, passOffset, maxColors, maxMultiview, flags, totalLength, viewStart, passStart, passEnd}
+use Rattle.definition.specs.Verdict.{_then_, unless, nowhere, fine, refusedAt}
+use Rattle.definition.specs.Readable.{between, lengthRight, headerRight, texturesRight, viewsRight, sessionVerdict, sessionRefusal}
+use Rattle.definition.specs.declared.Verdict.{Verdict}
+use Rattle.laws.proofs.Tests.{and-on, and-off-right}
+use Rattle.laws.proofs.Conjunctions.{each}
+use Rattle.laws.proofs.Verdicts.{then-stop, then-go, unless-fine, unless-refused}
+use Rattle.print.specs.Most.{mostBytes}
+
+-- A right header's length field is at most the longest session's length.
+header-most : (s : List ℕ) → headerRight s ≡ true → totalLength s ≤ mostBytes
+unfolding headerRight
+header-most s h =
+    let test = each tests h in
+    omega (arith, leb-true (textureCount s) maxTextures (test 0), leb-true (viewCount s) maxViews (test 2), leb-true (passCount s) maxPasses (test 4), eqb-true (passEnd s) (totalLength s) (test 9))
+  where
+    tests : List Bool
+    tests =
+        leb (textureCount s) maxTextures ∷ eqb (textureOffset s) headerBytes ∷ leb (viewCount s) maxViews ∷ eqb (viewOffset s) (viewStart s) ∷ leb (passCount s) maxPasses
+        ∷ eqb (passOffset s) (passStart s) ∷ between 1 maxSlots (maxColors s) ∷ leb (maxMultiview s) maxMultiviews ∷ leb (flags s) maxFlags
+        ∷ eqb (passEnd s) (totalLength s) ∷ []
+
+-- So a longer file is refused as 1 where its length field is wrong, else as 2.
+pub long-refused : (s : List ℕ) → mostBytes < length s → sessionRefusal s ≡ cond (eqb (totalLength s) (length s)) 2 1
+unfolding sessionVerdict lengthRight
+long-refused s h = go (eqb (totalLength s) (length s)) refl (headerRight s) refl
+  where
+    long : leb headerBytes (length s) ≡ true
+    long = le-leb headerBytes (length s) (omega arith)
+
+    rest : Verdict
+    rest = unless (texturesRight (session s)) 3 nowhere then unless (viewsRight (session s)) 4 nowhere
+
+    go : (a : Bool) → eqb (totalLength s) (length s) ≡ a → (b : Bool) → headerRight s ≡ b
+        → (unless (leb headerBytes (length s) && a) 1 nowhere then unless b 2 nowhere then rest) .number ≡ cond a 2 1
+    go false e b f = ap (λ v. v .number)
+        (ap (λ u. u then unless b 2 nowhere then rest) (unless-refused (leb headerBytes (length s) && false) 1 nowhere (and-off-right (leb headerBytes (length s)) false refl))
+        ∙ then-stop (refusedAt 1 nowhere) (unless b 2 nowhere then rest) refl)
+    go true e true f = absurd (omega (arith, h, header-most s f, eqb-true (totalLength s) (length s) e))
+    go true e false f = ap (λ v. v .number)
+        (ap (λ u. u then unless false 2 nowhere then rest) (unless-fine (leb headerBytes (length s) && true) 1 nowhere (and-on (leb headerBytes (length s)) true long refl))
+        ∙ then-go fine (unless false 2 nowhere then rest) refl
+        ∙ ap (λ u. u then rest) (unless-refused false 2 nowhere refl)
+        ∙ then-stop (refusedAt 2 nowhere) rest refl)

@@ -1,4 +1,0 @@
--- The root of what this crate means.
-pub mod Text
-pub mod Output
-pub mod Examples
