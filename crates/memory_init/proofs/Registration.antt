@@ -129,12 +129,6 @@ spared-step l m r d d₁ d₂ a a₁ a₂ c c₁ c₂ s left hm hr ha hc = recor
   clears = left .past-clears ∙ past-more 3 decodeSurface (m .clears) (r .clears) c c₁ hc (s .clears);
 }
 
--- The counts that a call leaves are the lengths of its lists.
+-- The count of discards that a call leaves is the length of their list.
 pub leaves-discards : (l : Lists) (n r : Counts) (d d′ a a′ c c′ : List ℕ) → Leaves l n r d d′ a a′ c c′ → r .discards ≡ length (l .discards)
 leaves-discards l n r d d′ a a′ c c′ left = sym (records-length 3 decodeSurface (r .discards) d′) ∙ ap (λ (q : Lists). length (q .discards)) (left .lists)
-
-pub leaves-actions : (l : Lists) (n r : Counts) (d d′ a a′ c c′ : List ℕ) → Leaves l n r d d′ a a′ c c′ → r .actions ≡ length (l .actions)
-leaves-actions l n r d d′ a a′ c c′ left = sym (records-length 6 decodeAction (r .actions) a′) ∙ ap (λ (q : Lists). length (q .actions)) (left .lists)
-
-pub leaves-clears : (l : Lists) (n r : Counts) (d d′ a a′ c c′ : List ℕ) → Leaves l n r d d′ a a′ c c′ → r .clears ≡ length (l .clears)
-leaves-clears l n r d d′ a a′ c c′ left = sym (records-length 3 decodeSurface (r .clears) c′) ∙ ap (λ (q : Lists). length (q .clears)) (left .lists)

@@ -20,10 +20,6 @@ use Rattle.render.proofs.Reply.{attachments-most}
 pub room-whole : (n : Counts) (a : List ℕ) → 6 * maxActions ≤ length a → 6 * min maxActions (n .actions + maxAdded) ≤ length a
 room-whole n a h = omega (arith, h)
 
--- A list for the new actions alone is long enough where it has none.
-pub room-new : (n : Counts) (a : List ℕ) → n .actions ≡ 0 → 6 * maxAdded ≤ length a → 6 * min maxActions (n .actions + maxAdded) ≤ length a
-room-new n a e h = omega (arith, e, h)
-
 -- At most 17 attachments, at most 64 discards before them, at most nine listed by them.
 pub pass-added : (S : Session) (p : Pass) (l : Lists) → p .colors ≤ 8 → length (l .discards) ≤ maxDiscards → length (attachAll (attachments S p) l .actions) ≤ length (l .actions) + maxAdded
 pass-added S p l colors few = omega (arith, all-entered (attachments S p) l, attachments-most S p colors, pass-listed S p, few)

@@ -1,5 +1,5 @@
 -- The six numbers are the action's.
-use mathlib.Core.Path.{ap, ap₂, _∙_}
+use mathlib.Core.Path.{ap₂, _∙_}
 use Rattle.definition.specs.Surfaces.{rangeAt}
 use Rattle.records.specs.Lent.{layersOf}
 use Rattle.lent.proofs.Reading.{range-packed}
