@@ -42,7 +42,6 @@ ghost use Rattle.definition.specs.Session.{session};
 ghost use Rattle.definition.specs.Views as Vw;
 ghost use Rattle.definition.specs.Check as Ck;
 ghost use Rattle.views.specs.Taken.{takenIn};
-ghost use Rattle.colors.specs.Resolve.{sameExtent, targetView, targetOf};
 
 // The most colour slots of a pass, and so the place of the first resolve target.
 const MAX_COLOR_ATTACHMENTS: u32 = 8;
@@ -71,7 +70,7 @@ pub fn color_view(s: &[u8], pass: u32, seen: Seen, c: Slot, v: View, k: u32) -> 
 
 // Whether two views have the same width and height.
 fn same_extent(s: &[u8], v: View, w: View) -> bool
-    ensures { λ r. ⌜ r ≡ sameExtent (session (now (s .entry))) v w ⌝ }
+    ensures { λ r. ⌜ r ≡ Vw.sameExtent (session (now (s .entry))) v w ⌝ }
 {
     (width_of(s, v) == width_of(s, w)) & (height_of(s, v) == height_of(s, w))
 }
@@ -87,7 +86,7 @@ fn target_view(
     target: View,
     place: u32,
 ) -> Verdict
-    ensures { λ r. ⌜ r ≡ targetView (session (now (s .entry))) seen (Vw.takes v slice ++ takenIn (now (s .entry)) pass k) target place ⌝ }
+    ensures { λ r. ⌜ r ≡ Vw.targetView (session (now (s .entry))) seen (Vw.takes v slice ++ takenIn (now (s .entry)) pass k) target place ⌝ }
 {
     let layers = check_multiview(s, seen, target, place);
     let flat = unless(is_d2(target) | is_d2_array(target), 48, place);
@@ -98,7 +97,7 @@ fn target_view(
 
 // A resolve target against its colour view v: 35 and 42 to 45.
 fn target_of(s: &[u8], seen: Seen, v: View, target: View, place: u32) -> Verdict
-    ensures { λ r. ⌜ r ≡ targetOf (session (now (s .entry))) seen v target place ⌝ }
+    ensures { λ r. ⌜ r ≡ Vw.targetOf (session (now (s .entry))) seen v target place ⌝ }
 {
     let resolves = (samples_of(s, v) != 1) & (samples_of(s, target) == 1);
     let extent = unless_against(same_extent(s, v, target), 35, place, seen.last);

@@ -69,18 +69,29 @@ colorView S seen taken c v k =
     then sliceVerdict S c v k
     then overlapVerdict taken v (c .slice) k
 
--- A resolve target r of the colour view v: 30 to 33, 48, 41, 34, 35, 42 to 45 (W3C GPURenderPassColorAttachment Valid Usage: resolveTarget).
-unfoldable pub resolveView : Session → Seen → List Surface → View → View → ℕ → Verdict
-resolveView S seen taken v r place =
+-- A resolve target r, by itself: 30 to 33, 48, 41, 34.
+unfoldable pub targetView : Session → Seen → List Surface → View → ℕ → Verdict
+targetView S seen taken r place =
     multiviewVerdict S seen r place
     then unless (isD2 r || isD2Array r) 48 place
     then overlapVerdict taken r 0 place
     then unless (renderable r) 34 place
-    then unlessAgainst (eqb (widthOf S v) (widthOf S r) && eqb (heightOf S v) (heightOf S r)) 35 place (seen .last)
+
+-- Beside its colour view v: 35, 42 to 45.
+abbrev pub sameExtent : Session → View → View → Bool
+sameExtent S v w = eqb (widthOf S v) (widthOf S w) && eqb (heightOf S v) (heightOf S w)
+
+unfoldable pub targetOf : Session → Seen → View → View → ℕ → Verdict
+targetOf S seen v r place =
+    unlessAgainst (sameExtent S v r) 35 place (seen .last)
     then unless (not (eqb (samplesOf S v) 1) && eqb (samplesOf S r) 1) 42 place
     then unless (eqb (formatOf S v) (formatOf S r)) 43 place
     then unless (eqb (r .resolvable) 1) 44 place
     then unless (not (transient r)) 45 place
+
+-- Both (W3C GPURenderPassColorAttachment Valid Usage: resolveTarget).
+unfoldable pub resolveView : Session → Seen → List Surface → View → View → ℕ → Verdict
+resolveView S seen taken v r place = targetView S seen taken r place then targetOf S seen v r place
 
 -- What is seen after a depth-stencil or colour view: the first fixes layers, extent and samples.
 unfoldable pub seeView : Session → Seen → View → ℕ → Seen

@@ -1,14 +1,12 @@
--- The two parts of the checks, one after the other, are the definition's one chain.
+-- The two parts of the checks, one after the other.
 use Rattle.definition.specs.Views.{resolveView}
-use Rattle.laws.proofs.Verdicts.{then-assoc}
-use Rattle.colors.specs.Resolve.{targetView, targetOf}
 use borrow.Author.Needs.{needs}
 use Rattle.colors.proofs.resolve_view.Statement.{statement}
 use Rattle.colors.proofs.resolve_view.Tie as tie
 
 returns : tie.Need-returns
-unfolding resolveView targetView targetOf
-returns c = simp (c .then .ensures, c .before .target-of .ensures, c .before .before .target-view .ensures, then-assoc)
+unfolding resolveView
+returns c = simp (c .then .ensures, c .before .target-of .ensures, c .before .before .target-view .ensures)
 
 pub resolve-view-spec : {M : Type 1} → statement M
 resolve-view-spec =

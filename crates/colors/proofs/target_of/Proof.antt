@@ -1,5 +1,5 @@
 -- What each call promises, put together as the definition puts it together.
-use Rattle.colors.specs.Resolve.{targetOf}
+use Rattle.definition.specs.Views.{targetOf}
 use borrow.Author.Needs.{needs}
 use Rattle.colors.proofs.target_of.Statement.{statement}
 use Rattle.colors.proofs.target_of.Tie as tie

@@ -1,5 +1,5 @@
 -- What each call promises, put together as the definition puts it together.
-use Rattle.colors.specs.Resolve.{targetView}
+use Rattle.definition.specs.Views.{targetView}
 use borrow.Author.Needs.{needs}
 use Rattle.colors.proofs.target_view.Statement.{statement}
 use Rattle.colors.proofs.target_view.Tie as tie

@@ -1,12 +1,11 @@
 -- Demand 3 of any run of the C functions from fresh buffers: the memory is told what a caller reads in the replies and the buffers.
-use Prim.Native.Nat.{ℕ, _<_}
+use Prim.Native.Nat.{ℕ}
 use mathlib.Core.Path.{_≡_}
-use mathlib.Core.Logic.{_≢_}
 use mathlib.Core.Bool.{true}
 use mathlib.Core.List.{List, []}
 use mathlib.Core.Option.{none}
 use lib.ListN.{take}
-use Rattle.definition.specs.Session.{session, strict}
+use Rattle.definition.specs.Session.{session}
 use Rattle.definition.specs.Readable.{sessionRefusal}
 use Rattle.definition.specs.Status.{filled}
 use Rattle.definition.specs.Calls.{Call, called}
@@ -14,6 +13,7 @@ use Rattle.definition.specs.declared.Surface.{Surface}
 use Rattle.laws.specs.Surfaces.{Inside}
 use Rattle.laws.specs.Noninterference.Memory.{Cells, Drawing, Contents, events, byteOf, loaded, cells}
 use Rattle.laws.specs.Noninterference.Claim.{submittedFrom, lastUse, kept, Agree}
+use Rattle.laws.specs.Noninterference.Theorem.{OfStrictSessions}
 use Rattle.desk.specs.EntryPoints.Run.{Buffers, heldIn, Fresh, Turn, entryOf, Run, buffersAfter, answersIn}
 
 -- A surface's status byte after the first n calls.
@@ -40,12 +40,7 @@ pub record HiddenIn {Val : Type 0} (D : Drawing Val) (c c′ : Contents Val) (s 
 
 abbrev pub DemandThreeOfCalls : Type 1
 DemandThreeOfCalls =
-    (s : List ℕ) → sessionRefusal s ≡ 0
-    → strict (session s) ≡ true
-    → ((k : ℕ) → k < session s .viewCount → session s .view k .layers ≡ 1)
-    → ((t : ℕ) → t < session s .textureCount → session s .texture t .dimension ≢ 3)
-    → (b : Buffers) → Fresh b → (ts : List Turn) → Run s b ts
-    → (Val : Type 0) (D : Drawing Val) (c c′ : Contents Val) → HiddenIn D c c′ s b ts
+    OfStrictSessions (λ s. (b : Buffers) → Fresh b → (ts : List Turn) → Run s b ts → (Val : Type 0) (D : Drawing Val) (c c′ : Contents Val) → HiddenIn D c c′ s b ts)
 
 -- From fresh buffers number 6 never arises: after any calls, every call is the definition's, of what is lent.
 abbrev pub NeverSixOfCalls : Type 0

@@ -15,7 +15,7 @@ use Rattle.definition.specs.Session.{Pass, Session, strict, surfaceCount, forma
 use Rattle.definition.specs.Verdict.{atDepthStencil, isFine, unless}
 use Rattle.definition.specs.Readable.{viewsRight}
 use Rattle.definition.specs.Channel.{LoadOp, loadOp, clearOp, dontCare, Ops, operational, keepOf, ignores, loadBits, storeBits, clearValue, PassChannel, depthChannel, stencilChannel, Handled, value, refusal, resolveReadOnly, withStore, withClear, resolveOps, resolve, handleDepth, handleStencil, resolveDepth, resolveStencil, depthResolved, stencilResolved, resolvedOps}
-use Rattle.definition.specs.Views.{noneSeen, renderable, multiviewVerdict, viewVerdict, sliceVerdict, takes, overlapVerdict, depthStencilView, colorView, resolveView}
+use Rattle.definition.specs.Views.{noneSeen, renderable, multiviewVerdict, viewVerdict, sliceVerdict, takes, overlapVerdict, depthStencilView, colorView, targetView, targetOf, resolveView}
 use Rattle.definition.specs.Check.{slotLoad, channelOps}
 use Rattle.definition.specs.Attachments.{Attached, depthStencil, color, resolveTo, depthOps, stencilOps, depthStencilOf, colorOf, rangeIn}
 use Rattle.definition.specs.Pass.{zero32, black, attachmentReply}
@@ -179,19 +179,18 @@ strict-off false b h e = refl
 pub target-facts : (S : Session) (v : View) (n place : ℕ) (q : Seen) (taken : List Surface) → ViewFacts S (S .view n) → isColor (formatOf S v) ≡ true
     → isFine (resolveView S q taken v (S .view n) place) ≡ true
     → ColorFacts S (resolveTo n (viewRange (S .view n))) × (meets (takes (S .view n) 0) taken ≡ false)
-unfolding resolveView overlapVerdict
+unfolding resolveView targetView targetOf overlapVerdict
 target-facts S v n place q taken known col h =
     let r : View = S .view n in
-    let from-48 = then-right (multiviewVerdict S q r place) _ h in
+    let from-48 = then-right (multiviewVerdict S q r place) _ (then-left (targetView S q taken r place) _ h) in
     let from-41 = then-right (unless (isD2 r || isD2Array r) 48 place) _ from-48 in
-    let from-34 = then-right (overlapVerdict taken r 0 place) _ from-41 in
-    let from-35 = then-right (unless (renderable r) 34 place) _ from-34 in
-    let from-42 = then-right _ _ from-35 in
+    let on-34 = then-right (overlapVerdict taken r 0 place) _ from-41 in
+    let from-42 = then-right _ _ (then-right (targetView S q taken r place) _ h) in
     let from-43 = then-right _ _ from-42 in
     let same-format : formatOf S v ≡ formatOf S r = eqb-true _ _ (unless-on (eqb (formatOf S v) (formatOf S r)) 43 place refl (then-left _ _ from-43)) in
     let rcol : isColor (formatOf S r) ≡ true = ap isColor (sym same-format) ∙ col in (
       record {
-        sound = sound-of S (resolveTo n (viewRange r)) (known .range) (renderable-mip r (unless-on (renderable r) 34 place refl (then-left _ _ from-34))) (known .single) refl
+        sound = sound-of S (resolveTo n (viewRange r)) (known .range) (renderable-mip r (unless-on (renderable r) 34 place refl on-34)) (known .single) refl
             (color-aspects (formatOf S r) rcol (record { aspect = colorAspect; input = nothing; keep = true }) refl);
         colored = rcol;
         told = λ d. resolve-told S n d rcol;

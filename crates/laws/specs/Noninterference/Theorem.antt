@@ -14,14 +14,18 @@ use Rattle.definition.specs.declared.Surface.{Surface}
 use Rattle.laws.specs.Surfaces.{Inside}
 use Rattle.laws.specs.Noninterference.Claim.{byteAt, Claim}
 
--- Demand 3: of every byte string that is a readable session with the strict flag, one-layer views and no 3D texture.
-abbrev pub DemandThree : Type 1
-DemandThree =
+-- Document 01's conditions: P of every byte string that is a readable session with the strict flag, one-layer views and no 3D texture.
+abbrev pub OfStrictSessions : (List ℕ → Type 1) → Type 1
+OfStrictSessions P =
     (s : List ℕ) → sessionRefusal s ≡ 0
     → strict (session s) ≡ true
     → ((k : ℕ) → k < session s .viewCount → session s .view k .layers ≡ 1)
     → ((t : ℕ) → t < session s .textureCount → session s .texture t .dimension ≢ 3)
-    → Claim (session s)
+    → P s
+
+-- Demand 3.
+abbrev pub DemandThree : Type 1
+DemandThree = OfStrictSessions (λ s. Claim (session s))
 
 -- What the first n calls answer is the first n of what all of them answer.
 abbrev pub FirstAnswers : Type 0
