@@ -1,12 +1,12 @@
 #!/usr/bin/env bash
 # Edits of `definition` that the theorem must refuse: tools/definition-edits.sh [FOLDER/NAME..], all of them if none is named.
-# `rt must-fail` tries an edit on its own crate alone, so each edit of crates/laws/definition-edits is made on a copy of the two
+# `rt must-fail` tries an edit on its own crate alone, so each edit of crates/noninterference/definition-edits is made on a copy of the three
 # crates, without the computed checks and the code, and the fact that the edit names must fail there. EDIT_JOBS run at a time (default 2).
 # Last line: 'N passed, M failed'. What each check says stays in EDIT_LOGS (default target/definition-edits).
 set -u
 cd "$(dirname "$0")/.." || exit 2
 
-edits=crates/laws/definition-edits
+edits=crates/noninterference/definition-edits
 logs=${EDIT_LOGS:-$PWD/target/definition-edits}
 work=$(mktemp -d) || exit 2
 trap 'rm -rf "$work"' EXIT
@@ -15,13 +15,13 @@ if [ $# -eq 0 ]; then set -- "$edits"/*/*.edit; else set -- "${@/#/$edits/}" && 
 
 # The crates as every edit finds them: without must-fail edits, without the files of computed checks, and without the code, whose proofs an edit may break first.
 mkdir "$work/base" "$work/base/crates" || exit 2
-cp -r crates/definition crates/laws "$work/base/crates/" || exit 2
-grep -E '^(definition|laws):' crates.txt > "$work/base/crates.txt"
+cp -r crates/definition crates/laws crates/noninterference "$work/base/crates/" || exit 2
+grep -E '^(definition|laws|noninterference):' crates.txt > "$work/base/crates.txt"
 rm -rf "$work"/base/crates/*/must-fail "$work/base/$edits"
-rm -f "$work"/base/crates/definition/specs/{Corners,Sessions,Files}.antt "$work/base/crates/laws/proofs/Noninterference/Examples.antt"
+rm -f "$work"/base/crates/definition/specs/{Corners,Sessions,Files}.antt "$work/base/crates/noninterference/proofs/Examples.antt"
 rm -rf "$work"/base/crates/definition/{src/verdicts.rt,proofs}
 sed -i -E '/^pub mod (Corners|Sessions|Files|Examples|verdicts;)$/d' \
-    "$work"/base/crates/definition/{specs/Lib.antt,src/lib.rt} "$work/base/crates/laws/proofs/Noninterference.antt"
+    "$work"/base/crates/definition/{specs/Lib.antt,src/lib.rt} "$work/base/crates/noninterference/proofs/Lib.antt"
 
 # A line of an edit; ⏎ stands for the end of a line.
 field() { # NAME EDIT
@@ -51,8 +51,8 @@ try() { # EDIT
     said='NOT REFUSED: the theorem still holds'
     if [ -z "$fact" ] || ! apply "$1" "$copy/crates/definition"; then
         said='BAD EDIT: it names no fact, or its text does not occur once'
-    elif ! (cd "$copy" && rt check laws) > "$log" 2>&1; then
-        at=$(grep -E "/crates/laws/[^ ]*: error: \`$fact\`" "$log" | grep -v 'was not admitted' | sed -E "s|^$copy/||; s|: error: .*||; q")
+    elif ! (cd "$copy" && rt check noninterference) > "$log" 2>&1; then
+        at=$(grep -E "/crates/(laws|noninterference)/[^ ]*: error: \`$fact\`" "$log" | grep -v 'was not admitted' | sed -E "s|^$copy/||; s|: error: .*||; q")
         if ! grep -q '^rt: definition proved' "$log"; then
             said='BAD EDIT: it is no definition'
         elif grep -q -E 'error: .*(not in scope|can be named from here|has no field)' "$log"; then

@@ -50,10 +50,14 @@ colors slots = passOf 0 0 noView absent absent slots
 abbrev pub depthStencil : ℕ → List ℕ → List ℕ → List ℕ
 depthStencil v depth stencil = passOf 0 0 v depth stencil []
 
--- The file: maximum colours, maximum multiview views, flags; textures, views, passes.
-abbrev pub file : (maxColors maxMultiview flags : ℕ) → List (List ℕ) → List (List ℕ) → List (List ℕ) → List ℕ
-file maxColors maxMultiview flags textures views passes =
+-- The file: the header's settings, which stand before the total length; textures, views, passes.
+abbrev pub fileOf : List ℕ → List (List ℕ) → List (List ℕ) → List (List ℕ) → List ℕ
+fileOf settings textures views passes =
     let viewStart = headerBytes + textureBytes * length textures in
     let passStart = viewStart + viewBytes * length views in
-    words ((length textures ∷ headerBytes ∷ length views ∷ viewStart ∷ length passes ∷ passStart ∷ maxColors ∷ maxMultiview ∷ flags
-    ∷ (passStart + passBytes * length passes) ∷ []) ++ concat textures ++ concat views ++ concat passes)
+    words ((length textures ∷ headerBytes ∷ length views ∷ viewStart ∷ length passes ∷ passStart ∷ []) ++ settings
+    ++ ((passStart + passBytes * length passes) ∷ []) ++ concat textures ++ concat views ++ concat passes)
+
+-- Of maximum colours, maximum multiview views and flags.
+abbrev pub file : (maxColors maxMultiview flags : ℕ) → List (List ℕ) → List (List ℕ) → List (List ℕ) → List ℕ
+file maxColors maxMultiview flags textures views passes = fileOf (maxColors ∷ maxMultiview ∷ flags ∷ []) textures views passes

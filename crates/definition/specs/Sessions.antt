@@ -14,7 +14,7 @@ use Rattle.definition.specs.declared.Range.{Range}
 use Rattle.definition.specs.declared.MemoryInitKind.the-variants.{NeedsInitializedMemory}
 use Rattle.definition.specs.Program.{deskcheck}
 use Rattle.definition.specs.Computing.{computing}
-use Rattle.definition.specs.Files.{words, texture, view, channel, absent, sliceSlot, slot, emptySlot, passOf, colors, depthStencil, file}
+use Rattle.definition.specs.Files.{texture, view, channel, absent, sliceSlot, slot, emptySlot, passOf, colors, depthStencil, file}
 
 -- An accepted pass of size n × n: clears returned, discards listed. A refused one: number, place, earlier place, discards as found.
 abbrev accepted : (pass n samples clears discards : ℕ) → List ℕ
@@ -54,7 +54,7 @@ whole t = view t 2 1 1 16 0
 -- 1: an empty file. 2: 65 textures. 3: three samples. 4: two layers of one. And a session without passes prints nothing.
 refused-sessions : all (
     []
-    ∷ words (65 ∷ 40 ∷ 0 ∷ 40 ∷ 0 ∷ 40 ∷ 8 ∷ 0 ∷ 0 ∷ 40 ∷ [])
+    ∷ file 8 0 0 (replicate 65 plain) [] []
     ∷ file 8 0 0 (texture 3 2 4 1 1 3 16 ∷ []) [] []
     ∷ file 8 0 0 (plain ∷ []) (view 0 3 1 2 16 0 ∷ []) []
     ∷ file 8 0 0 (plain ∷ []) (whole 0 ∷ []) []

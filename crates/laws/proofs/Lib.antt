@@ -14,4 +14,3 @@ pub mod Lent
 pub mod Records
 pub mod Compact
 pub mod Extend
-pub mod Noninterference

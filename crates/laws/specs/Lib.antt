@@ -3,4 +3,3 @@ pub mod Submission
 pub mod Room
 pub mod Views
 pub mod Records
-pub mod Noninterference

@@ -1,11 +1,20 @@
--- How many entries the clears, the actions and the discards have, and how many a pass may add.
+-- What attachments reach; how many entries the clears, the actions and the discards have, and how many a pass may add.
 use Prim.Native.Nat.{ℕ, _+_}
 use mathlib.Core.List.{List, [], _∷_}
-use mathlib.Core.Bool.{cond}
+use mathlib.Core.Bool.{Bool, false, _||_, cond}
 use lib.ListN.{length}
-use Rattle.definition.specs.Surfaces.{named}
+use Rattle.definition.specs.Surfaces.{hits, named}
 use Rattle.definition.specs.MemoryInit.{Lists}
 use Rattle.definition.specs.Attachments.{Attached, rangeIn, discards}
+use Rattle.definition.specs.declared.Surface.{Surface}
+
+-- What an attachment's action reaches, and what the actions of attachments reach.
+abbrev pub reaches : Attached → Surface → Bool
+reaches x s = hits (rangeIn x) s
+
+abbrev pub reached : Surface → List Attached → Bool
+reached s [] = false
+reached s (x ∷ xs) = reaches x s || reached s xs
 
 -- Entries among the clears and the discards.
 abbrev pub held : Lists → ℕ

@@ -1,5 +1,3 @@
 // Laws of the definition that several crates cite: of tests, verdicts, surfaces, status bytes, lists and folds.
 // In Records, Compact and Extend: laws of lent flat lists, for any type of record, any test and every length.
-// In Noninterference: demand 3, no unwritten or discarded memory ever becomes visible.
-// There is no code here; specs/ has the notions that the laws speak of, the memory, the claim and the theorems, proofs/ the laws and why
-// the theorems hold.
+// There is no code here; specs/ has the notions that the laws speak of, proofs/ the laws.

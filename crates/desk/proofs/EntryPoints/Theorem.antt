@@ -31,9 +31,9 @@ use Rattle.desk.specs.declared.reply.Reply as C
 use Rattle.desk.specs.Entry.{numberIn}
 use Rattle.desk.specs.Reply.{answered}
 use Rattle.desk.proofs.Calls.{entry-call, lent-accepts}
-use Rattle.laws.specs.Noninterference.Memory.{events, byteOf, loaded, cells}
-use Rattle.laws.specs.Noninterference.Claim.{submittedFrom, lastUse, kept, Agree, Hidden}
-use Rattle.laws.proofs.Noninterference.Theorem.{demand-three, first-answers, never-six}
+use Rattle.noninterference.specs.Memory.{events, byteOf, loaded, cells}
+use Rattle.noninterference.specs.Claim.{submittedFrom, lastUse, kept, Agree, Hidden}
+use Rattle.noninterference.proofs.Theorem.{demand-three, first-answers, never-six}
 use Rattle.desk.specs.EntryPoints.Run.{Buffers, heldIn, Fresh, Told, ofPass, ofSubmit, callOf, Turn, entryOf, Says, Promised, Run, callsOf, buffersAfter, readIn, answersIn}
 use Rattle.desk.specs.EntryPoints.Theorem.{DemandThreeOfCalls, NeverSixOfCalls}
 

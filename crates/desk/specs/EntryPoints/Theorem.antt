@@ -11,9 +11,9 @@ use Rattle.definition.specs.Status.{filled}
 use Rattle.definition.specs.Calls.{Call, called}
 use Rattle.definition.specs.declared.Surface.{Surface}
 use Rattle.laws.specs.Surfaces.{Inside}
-use Rattle.laws.specs.Noninterference.Memory.{Cells, Drawing, Contents, events, byteOf, loaded, cells}
-use Rattle.laws.specs.Noninterference.Claim.{submittedFrom, lastUse, kept, Agree}
-use Rattle.laws.specs.Noninterference.Theorem.{OfStrictSessions}
+use Rattle.noninterference.specs.Memory.{Cells, Drawing, Contents, events, byteOf, loaded, cells}
+use Rattle.noninterference.specs.Claim.{submittedFrom, lastUse, kept, Agree}
+use Rattle.noninterference.specs.Theorem.{OfStrictSessions}
 use Rattle.desk.specs.EntryPoints.Run.{Buffers, heldIn, Fresh, Turn, entryOf, Run, buffersAfter, answersIn}
 
 -- A surface's status byte after the first n calls.

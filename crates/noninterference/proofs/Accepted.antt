@@ -1,0 +1,311 @@
+-- A pass that the checks accept: slot by slot, what is taken covers what the attachments reach, so that 41 keeps the next slot apart from it.
+use mathlib.Core.Path.{_≡_, refl, sym, ap, ap₂, _∙_}
+use mathlib.Core.Bool.{Bool, true, false, not, _&&_, _||_, cond}
+use mathlib.Core.List.{List, [], _∷_, _++_, map}
+use mathlib.Core.Option.{none, some}
+use Prim.Native.Nat.{ℕ, zero, suc, _≤_}
+use native.Mathlib.Omega.{arith}
+use lib.Dec.{leb, ltb}
+use borrow.Author.Tests.{leb-true}
+use Rattle.definition.specs.Sizes.{maxSlots, maxSurfaces}
+use Rattle.definition.specs.Formats.{isColor}
+use Rattle.definition.specs.Surfaces.{elem, meets}
+use Rattle.definition.specs.Session.{Pass, Session, isNone, strict, surfaceCount, formatOf, viewRange, transient}
+use Rattle.definition.specs.Verdict.{resolveAt, atDepthStencil, nowhere, fine, isFine, refusedAt, _then_, unless}
+use Rattle.definition.specs.Readable.{viewsRight, channelReads, depthStencilReads, resolveReads, slotReads, slotsRead, passReads}
+use Rattle.definition.specs.Channel.{ignores, keepOf, transientOps}
+use Rattle.definition.specs.Views.{noneSeen, takes, depthStencilView, colorView, resolveView, seeView}
+use Rattle.definition.specs.Check.{slotLoad, slotOps, colorOps, channelOps, depthStencilOps, opsVerdict, progress, resolveTakes, slotTakes, takenBefore, depthStencilStep, resolveStep, colorStep, slotStep, nextSlot, slotSteps, maskStep, viewSteps, check}
+use Rattle.definition.specs.Attachments.{Attached, resolveTo, depthStencilOf, depthStencilPart, resolvePart, colorOf, slotPart, slotParts, attachments, rangeIn, divergentOf}
+use Rattle.definition.specs.Pass.{attachmentReply, ofFirst}
+use Rattle.definition.specs.declared.View.{View}
+use Rattle.definition.specs.declared.Slot.{Slot}
+use Rattle.definition.specs.declared.Seen.{Seen}
+use Rattle.definition.specs.declared.Surface.{Surface}
+use Rattle.definition.specs.declared.Verdict.{Verdict}
+use Rattle.definition.specs.declared.Progress.{Progress}
+use Rattle.laws.proofs.Tests.{clash, and-left, and-right, or-on-left, or-on-right, or-second}
+use Rattle.laws.proofs.Surfaces.{hits-in, elem-append}
+use Rattle.laws.proofs.Overlap.{apart-elem}
+use Rattle.laws.proofs.Verdicts.{then-left, then-right, unless-on}
+use Rattle.laws.proofs.Folds.{next-fine, next-refused}
+use Rattle.laws.proofs.Places.{surfaces-counted}
+use Rattle.noninterference.specs.Memory.{useOf}
+use Rattle.noninterference.proofs.Plans.{plannedUse}
+use Rattle.laws.specs.Surfaces.{RangeInside}
+use Rattle.laws.specs.Room.{reaches, reached}
+use Rattle.noninterference.proofs.Passes.{find, All, Distinct, all-map, all-append, distinct-append, reached-append}
+use Rattle.noninterference.proofs.Sound.{Sound, Fit}
+use Rattle.noninterference.proofs.Checked.{Single, Flat, ViewFacts, view-facts, takes-reached, strict-off, ColorFacts, target-facts, color-facts, depth-color, DepthFacts, depth-facts}
+
+-- ── one slot
+
+-- Attachments of a slot, after what is taken: without 3D textures they reach no surface twice and none that is taken, and whatever they reach the slot takes.
+record SlotFacts (S : Session) (taken : List Surface) (xs : List Attached) (own : List Surface) : Type 0 where
+  facts : All (ColorFacts S) xs
+  distinct : Flat S → Distinct xs
+  apart : Flat S → (s : Surface) → elem s taken ≡ true → find s xs ≡ none
+  takes : Flat S → (s : Surface) → reached s xs ≡ true → elem s own ≡ true
+
+slot-none : (S : Session) (taken own : List Surface) → SlotFacts S taken [] own
+slot-none S taken own = record { facts = tt; distinct = λ fl. tt; apart = λ fl s e. refl; takes = λ fl s e. clash {b = false} e refl }
+
+find-off : (x : Attached) (s : Surface) (xs : List Attached) → reaches x s ≡ false → find s xs ≡ none → find s (x ∷ xs) ≡ none
+find-off x s xs h g = rw h g
+
+-- One more in front, which takes t, apart from what is taken.
+slot-more : (S : Session) (taken t own : List Surface) (x : Attached) (xs : List Attached) → ColorFacts S x → (Flat S → (s : Surface) → elem s t ≡ reaches x s) → meets t taken ≡ false
+    → SlotFacts S (t ++ taken) xs own → SlotFacts S taken (x ∷ xs) (own ++ t)
+slot-more S taken t own x xs c took a r = record {
+  facts = (c, r .facts);
+  distinct = λ fl. (λ s h. r .apart fl s (elem-append s t taken ∙ or-on-left (elem s t) (elem s taken) (took fl s ∙ h)), r .distinct fl);
+  apart = λ fl s h. find-off x s xs (sym (took fl s) ∙ apart-elem t taken s a h) (r .apart fl s (elem-append s t taken ∙ or-on-right (elem s t) (elem s taken) h));
+  takes = λ fl s h. elem-append s own t ∙ go fl s (reaches x s) refl h;
+}
+  where
+    go : Flat S → (s : Surface) (b : Bool) → reaches x s ≡ b → (reaches x s || reached s xs) ≡ true → (elem s own || elem s t) ≡ true
+    go fl s true f h = or-on-right (elem s own) (elem s t) (took fl s ∙ f)
+    go fl s false f h = or-on-left (elem s own) (elem s t) (r .takes fl s (or-second (reaches x s) (reached s xs) h f))
+
+abbrev fineStep : Progress → Bool
+fineStep a = isFine (a .verdict)
+
+module _ (S : Session) (vs : viewsRight S ≡ true) where
+  -- Its resolve target, where the colour view v takes t.
+  resolve-facts : (s : Slot) (k : ℕ) (v : View) (q : Seen) (taken : List Surface) → resolveReads S (s .resolve) ≡ true → isColor (formatOf S v) ≡ true
+      → fineStep (resolveStep S q taken s v k) ≡ true → SlotFacts S (takes v (s .slice) ++ taken) (resolvePart S s) (resolveTakes S s)
+  unfolding resolveStep resolvePart resolveReads
+  resolve-facts s k v q taken ok col h = go (isNone (s .resolve)) refl h
+    where
+      r : View
+      r = S .view (s .resolve)
+
+      before : List Surface
+      before = takes v (s .slice) ++ taken
+
+      go : (b : Bool) → isNone (s .resolve) ≡ b
+          → fineStep (cond b (progress fine q) (progress (resolveView S q before v r (resolveAt k)) q)) ≡ true
+          → SlotFacts S before (cond b [] (resolveTo (s .resolve) (viewRange r) ∷ [])) (cond b [] (takes r 0))
+      go true e h = slot-none S before []
+      go false e h =
+          let known : ViewFacts S r = view-facts S vs (s .resolve) (or-second (isNone (s .resolve)) (ltb (s .resolve) (S .viewCount)) ok e) in
+          let f : ColorFacts S (resolveTo (s .resolve) (viewRange r)) × (meets (takes r 0) before ≡ false) = target-facts S v (s .resolve) (resolveAt k) q before known col h in
+          slot-more S before (takes r 0) [] (resolveTo (s .resolve) (viewRange r)) [] (f .0) (λ fl. takes-reached r 0 (f .0 .mip) (known .flat fl)) (f .1)
+          (slot-none S (takes r 0 ++ before) [])
+
+  -- Slot k of a pass.
+  slot-facts : (p : Pass) (k : ℕ) (q : Seen) → slotReads S (p .slot k) ≡ true → isFine (slotOps S (p .slot k) k) ≡ true → fineStep (slotStep S p k q) ≡ true
+      → SlotFacts S (takenBefore S p k) (slotPart S (p .slot k)) (slotTakes S (p .slot k))
+  unfolding slotReads slotOps slotStep colorStep slotPart
+  slot-facts p k q ok ops h = go (isNone (s .view)) ok ops h
+    where
+      s : Slot
+      s = p .slot k
+
+      v : View
+      v = S .view (s .view)
+
+      taken : List Surface
+      taken = takenBefore S p k
+
+      reads : Bool
+      reads = ltb (s .view) (S .viewCount) && leb (s .sliced) 1 && resolveReads S (s .resolve) && leb (s .load) 2 && leb (s .store) 1
+
+      allowed : Verdict
+      allowed = unless (not (ignores (slotLoad s) && strict S)) 11 k then unless (not (transient v) || transientOps (slotLoad s) (keepOf (s .store))) 12 k
+
+      full : reads ≡ true → isFine allowed ≡ true → (b : Bool) → isFine (colorView S q taken s v k) ≡ b
+          → fineStep (cond b (resolveStep S (seeView S q v k) taken s v k) (progress (colorView S q taken s v k) q)) ≡ true
+          → SlotFacts S taken (colorOf S s ∷ resolvePart S s) (resolveTakes S s ++ takes v (s .slice))
+      full ok ops false e h = clash h e
+      full ok ops true e h =
+          let r1 : (ltb (s .view) (S .viewCount) && leb (s .sliced) 1 && resolveReads S (s .resolve) && leb (s .load) 2) ≡ true = and-left _ (leb (s .store) 1) ok in
+          let r2 : (ltb (s .view) (S .viewCount) && leb (s .sliced) 1 && resolveReads S (s .resolve)) ≡ true = and-left _ (leb (s .load) 2) r1 in
+          let r3 : (ltb (s .view) (S .viewCount) && leb (s .sliced) 1) ≡ true = and-left _ (resolveReads S (s .resolve)) r2 in
+          let known : ViewFacts S v = view-facts S vs (s .view) (and-left (ltb (s .view) (S .viewCount)) (leb (s .sliced) 1) r3) in
+          let cares : strict S ≡ true → ignores (slotLoad s) ≡ false = strict-off (ignores (slotLoad s)) (strict S) (unless-on (not (ignores (slotLoad s) && strict S)) 11 k refl (then-left _ _ ops)) in
+          let f : ColorFacts S (colorOf S s) × (meets (takes v (s .slice)) taken ≡ false) = color-facts S s k q taken known cares e in
+          slot-more S taken (takes v (s .slice)) (resolveTakes S s) (colorOf S s) (resolvePart S s) (f .0) (λ fl. takes-reached v (s .slice) (f .0 .mip) (known .flat fl)) (f .1)
+          (resolve-facts s k v (seeView S q v k) taken (and-right (ltb (s .view) (S .viewCount) && leb (s .sliced) 1) (resolveReads S (s .resolve)) r2) (f .0 .colored) h)
+
+      go : (b : Bool) → (b || reads) ≡ true → isFine (cond b fine allowed) ≡ true
+          → fineStep (cond b (progress fine q) (colorStep S q taken s v k)) ≡ true
+          → SlotFacts S taken (cond b [] (colorOf S s ∷ resolvePart S s)) (cond b [] (resolveTakes S s ++ takes v (s .slice)))
+      go true ok ops h = slot-none S taken []
+      go false ok ops h = full ok ops (isFine (colorView S q taken s v k)) refl h
+
+  -- ── all slots
+
+  record SlotsFacts (p : Pass) (n : ℕ) : Type 0 where
+    facts : All (ColorFacts S) (slotParts S p n)
+    distinct : Flat S → Distinct (slotParts S p n)
+    taken : Flat S → (s : Surface) → reached s (slotParts S p n) ≡ true → elem s (takenBefore S p n) ≡ true
+
+  -- A step is fine where what came before it is.
+  next-start : (p : Pass) (k : ℕ) (a : Progress) → fineStep (nextSlot S p k a) ≡ true → fineStep a ≡ true
+  next-start p k a h = go (fineStep a) refl
+    where
+      go : (b : Bool) → fineStep a ≡ b → fineStep a ≡ true
+      go true e = e
+      go false e = ap fineStep (sym (next-refused S p k a e)) ∙ h
+
+  steps-start : (p : Pass) (a : Progress) (n : ℕ) → fineStep (slotSteps S p a n) ≡ true → fineStep a ≡ true
+  unfolding slotSteps
+  steps-start p a zero h = h
+  steps-start p a (suc n) h = steps-start p a n (next-start p n (slotSteps S p a n) h)
+
+  slots-facts : (p : Pass) (a : Progress) (n : ℕ) → slotsRead S p n ≡ true → isFine (colorOps S p n) ≡ true → fineStep (slotSteps S p a n) ≡ true → SlotsFacts p n
+  unfolding slotsRead colorOps slotSteps slotParts takenBefore
+  slots-facts p a zero ok ops h = record { facts = tt; distinct = λ fl. tt; taken = λ fl s e. clash {b = false} e refl }
+  slots-facts p a (suc n) ok ops h =
+      let g : fineStep (slotSteps S p a n) ≡ true = next-start p n (slotSteps S p a n) h in
+      let r : SlotsFacts p n = slots-facts p a n (and-left (slotsRead S p n) _ ok) (then-left (colorOps S p n) _ ops) g in
+      let f : SlotFacts S (takenBefore S p n) (slotPart S (p .slot n)) (slotTakes S (p .slot n)) =
+      slot-facts p n (slotSteps S p a n .seen) (and-right (slotsRead S p n) (slotReads S (p .slot n)) ok) (then-right (colorOps S p n) (slotOps S (p .slot n) n) ops)
+      (ap fineStep (sym (next-fine S p n (slotSteps S p a n) g)) ∙ h) in
+      record {
+        facts = all-append (ColorFacts S) (slotParts S p n) (slotPart S (p .slot n)) (r .facts) (f .facts);
+        distinct = λ fl. distinct-append (slotParts S p n) (slotPart S (p .slot n)) (r .distinct fl) (f .distinct fl) (λ s e. f .apart fl s (r .taken fl s e));
+        taken = λ fl s e. elem-append s (slotTakes S (p .slot n)) (takenBefore S p n)
+            ∙ either s (reached s (slotParts S p n)) refl (sym (reached-append s (slotParts S p n) (slotPart S (p .slot n))) ∙ e) (r .taken fl s) (f .takes fl s);
+      }
+    where
+      either : (s : Surface) (b : Bool) → reached s (slotParts S p n) ≡ b → (reached s (slotParts S p n) || reached s (slotPart S (p .slot n))) ≡ true
+          → (reached s (slotParts S p n) ≡ true → elem s (takenBefore S p n) ≡ true)
+          → (reached s (slotPart S (p .slot n)) ≡ true → elem s (slotTakes S (p .slot n)) ≡ true)
+          → (elem s (slotTakes S (p .slot n)) || elem s (takenBefore S p n)) ≡ true
+      either s true e h old new = or-on-right (elem s (slotTakes S (p .slot n))) (elem s (takenBefore S p n)) (old e)
+      either s false e h old new =
+          or-on-left (elem s (slotTakes S (p .slot n))) (elem s (takenBefore S p n)) (new (or-second (reached s (slotParts S p n)) (reached s (slotPart S (p .slot n))) h e))
+
+-- ── the parts of an accepted pass
+
+-- 5.
+pub record Reads (S : Session) (p : Pass) : Type 0 where
+  pub colors : p .colors ≤ maxSlots
+  pub depth : depthStencilReads S p ≡ true
+  pub slots : slotsRead S p (p .colors) ≡ true
+
+reads-parts : (S : Session) (p : Pass) → passReads S p ≡ true → Reads S p
+unfolding passReads
+reads-parts S p h = go (leb (p .colors) maxSlots) refl h
+  where
+    go : (b : Bool) → leb (p .colors) maxSlots ≡ b → cond b (leb (p .ends) 1 && depthStencilReads S p && slotsRead S p (p .colors)) false ≡ true → Reads S p
+    go true e h = record {
+      colors = leb-true (p .colors) maxSlots e;
+      depth = and-right (leb (p .ends) 1) (depthStencilReads S p) (and-left (leb (p .ends) 1 && depthStencilReads S p) _ h);
+      slots = and-right (leb (p .ends) 1 && depthStencilReads S p) _ h;
+    }
+    go false e h = clash {b = false} h refl
+
+record Accepted (S : Session) (p : Pass) : Type 0 where
+  reads : Reads S p
+  slotOps : isFine (colorOps S p (p .colors)) ≡ true
+  depthOps : isFine (depthStencilOps S p) ≡ true
+  steps : fineStep (slotSteps S p (depthStencilStep S p) (p .colors)) ≡ true
+
+check-parts : (S : Session) (p : Pass) → fineStep (check S p) ≡ true → Accepted S p
+unfolding check opsVerdict viewSteps maskStep
+check-parts S p h = go (passReads S p) refl (isFine (opsVerdict S p)) refl h
+  where
+    go : (a : Bool) → passReads S p ≡ a → (b : Bool) → isFine (opsVerdict S p) ≡ b
+        → fineStep (cond a (cond b (viewSteps S p) (progress (opsVerdict S p) noneSeen)) (progress (refusedAt 5 nowhere) noneSeen)) ≡ true → Accepted S p
+    go false e b f h = clash {b = false} h refl
+    go true e false f h = clash h f
+    go true e true f h =
+        let o = then-right (unless (leb (p .colors) (S .maxColors)) 10 nowhere) _ f in
+        record {
+          reads = reads-parts S p e;
+          slotOps = then-left (colorOps S p (p .colors)) _ o;
+          depthOps = then-right (colorOps S p (p .colors)) _ o;
+          steps = then-left _ _ h;
+        }
+
+pub check-reads : (S : Session) (p : Pass) → isFine (check S p .verdict) ≡ true → Reads S p
+check-reads S p h = check-parts S p h .reads
+
+-- ── whatever is accepted is sound
+
+-- Of one mip, inside the session.
+pub record Ranged (S : Session) (x : Attached) : Type 0 where
+  pub range : RangeInside S (rangeIn x)
+  pub mip : rangeIn x .mips ≡ 1
+
+-- What holds of every accepted pass of a readable session, and what of those that the theorem is about.
+pub record Okay (S : Session) (xs : List Attached) : Type 0 where
+  pub sound : strict S ≡ true → Single S → All (Sound S) xs
+  pub ranged : All (Ranged S) xs
+  pub distinct : Flat S → Distinct xs
+  pub told : map (useOf S (ofFirst 0 divergentOf xs)) (map (attachmentReply S) xs) ≡ map plannedUse xs
+
+all-told : (S : Session) (d : ℕ) (xs : List Attached) → All (ColorFacts S) xs → map (useOf S d) (map (attachmentReply S) xs) ≡ map plannedUse xs
+all-told S d [] a = refl
+all-told S d (x ∷ xs) a = ap₂ _∷_ (a .0 .told d) (all-told S d xs (a .1))
+
+-- A depth-stencil texture is none of the colours'.
+depth-apart : (S : Session) (t : ℕ) (xs : List Attached) → isColor (S .texture t .format) ≡ false → All (ColorFacts S) xs → (s : Surface) → s .texture ≡ t → find s xs ≡ none
+depth-apart S t [] n h s e = refl
+depth-apart S t (x ∷ xs) n h s e = go (reaches x s) refl (depth-apart S t xs n (h .1) s e)
+  where
+    go : (b : Bool) → reaches x s ≡ b → find s xs ≡ none → cond (reaches x s) (some x) (find s xs) ≡ none
+    go true f ih = clash (h .0 .colored) (ap (λ u. isColor (S .texture u .format)) (sym (hits-in (rangeIn x) s f .texture) ∙ e) ∙ n)
+    go false f ih = rw f ih
+
+pub accepted-okay : (S : Session) → viewsRight S ≡ true → (p : Pass) → fineStep (check S p) ≡ true → Okay S (attachments S p)
+unfolding attachments depthStencilPart depthStencilStep depthStencilReads depthStencilOps
+accepted-okay S vs p h =
+    go (isNone (p .depthStencil)) (k .reads .depth) (k .depthOps) (steps-start S vs p (depthStencilStep S p) (p .colors) (k .steps))
+    (slots-facts S vs p (depthStencilStep S p) (p .colors) (k .reads .slots) (k .slotOps) (k .steps))
+  where
+    k : Accepted S p
+    k = check-parts S p h
+
+    v : View
+    v = S .view (p .depthStencil)
+
+    x : Attached
+    x = depthStencilOf S p v
+
+    xs : List Attached
+    xs = slotParts S p (p .colors)
+
+    sounds : All (ColorFacts S) xs → strict S ≡ true → Single S → All (Sound S) xs
+    sounds a st one = all-map (ColorFacts S) (Sound S) (λ y f. f .sound st one) xs a
+
+    ranges : All (ColorFacts S) xs → All (Ranged S) xs
+    ranges = all-map (ColorFacts S) (Ranged S) (λ y f. record { range = f .range; mip = f .mip }) xs
+
+    go : (b : Bool) → (b || ltb (p .depthStencil) (S .viewCount) && channelReads (p .depth) && channelReads (p .stencil)) ≡ true
+        → isFine (cond b fine (channelOps (strict S) (transient v) (formatOf S v) (p .depth) (p .stencil))) ≡ true
+        → fineStep (cond b (progress fine noneSeen) (progress (depthStencilView S v) (seeView S noneSeen v atDepthStencil))) ≡ true
+        → SlotsFacts S vs p (p .colors)
+        → Okay S (_++_ {A = Attached} (cond b [] (x ∷ [])) xs)
+    go true r o g sl = record { sound = sounds (sl .facts); ranged = ranges (sl .facts); distinct = sl .distinct; told = all-told S (ofFirst 0 divergentOf xs) xs (sl .facts) }
+    go false r o g sl =
+        let known : ViewFacts S v =
+        view-facts S vs (p .depthStencil) (and-left (ltb (p .depthStencil) (S .viewCount)) _ (and-left (ltb (p .depthStencil) (S .viewCount) && channelReads (p .depth)) _ r)) in
+        let d : DepthFacts S p = depth-facts S p known o g in
+        record {
+          sound = λ st one. (d .sound st one, sounds (sl .facts) st one);
+          ranged = (record { range = d .range; mip = d .mip }, ranges (sl .facts));
+          distinct = λ fl. (λ s e. depth-apart S (v .texture) xs (depth-color (formatOf S v) (d .format)) (sl .facts) s (hits-in (rangeIn x) s e .texture), sl .distinct fl);
+          told = ap₂ _∷_ (d .told (divergentOf x)) (all-told S (divergentOf x) xs (sl .facts));
+        }
+
+-- ── the theorem's conditions
+
+-- Readable, strict, every view of one layer, no 3D texture.
+pub record Conditions (S : Session) : Type 0 where
+  pub room : surfaceCount S ≤ maxSurfaces
+  pub views : viewsRight S ≡ true
+  pub strict : strict S ≡ true
+  pub single : Single S
+  pub flat : Flat S
+
+pub conditions-fit : (S : Session) → Conditions S → Fit S
+conditions-fit S c = record {
+  room = omega (arith, c .room, surfaces-counted S);
+  sound = λ p h. accepted-okay S (c .views) p h .sound (c .strict) (c .single);
+  distinct = λ p h. accepted-okay S (c .views) p h .distinct (c .flat);
+  tells = λ p h n q cl. ap (λ u. record { number = n; uses = u; clears = cl }) (accepted-okay S (c .views) p h .told);
+}

@@ -1,0 +1,303 @@
+-- One attachment that the checks accept is one mip of the session, and sound where its view has one layer and the session is strict: its parts are its format's
+-- aspects, and its reply tells them.
+use mathlib.Core.Path.{_≡_, refl, sym, ap, ap₂, subst, _∙_}
+use mathlib.Core.Bool.{Bool, true, false, not, _&&_, _||_, cond}
+use mathlib.Core.List.{List, [], _∷_, _++_}
+use mathlib.Core.Option.{Option, none, some}
+use Prim.Native.Nat.{ℕ, _+_, _<_, _≤_}
+use native.Mathlib.Omega.{arith}
+use lib.Dec.{leb, ltb, eqb}
+use lib.Ieee.{Float}
+use borrow.Author.Tests.{eqb-true, eqb-false, ne-eqb, leb-true, le-leb, ltb-true}
+use Rattle.definition.specs.Formats.{isColor, isDepthStencil, hasDepth, hasStencil}
+use Rattle.definition.specs.Surfaces.{hits, layersOf, elem, meets}
+use Rattle.definition.specs.Session.{Pass, Session, strict, formatOf, viewRange, isD2, isD2Array, isD3, transient}
+use Rattle.definition.specs.Verdict.{atDepthStencil, isFine, unless}
+use Rattle.definition.specs.Readable.{viewsRight}
+use Rattle.definition.specs.Channel.{LoadOp, loadOp, clearOp, dontCare, Ops, operational, keepOf, ignores, loadBits, storeBits, clearValue, PassChannel, depthChannel, stencilChannel, Handled, value, refusal, resolveReadOnly, withStore, withClear, resolveOps, resolve, handleDepth, handleStencil, resolveDepth, resolveStencil, depthResolved, stencilResolved, resolvedOps}
+use Rattle.definition.specs.Views.{noneSeen, renderable, multiviewVerdict, viewVerdict, sliceVerdict, takes, overlapVerdict, depthStencilView, colorView, targetView, targetOf, resolveView}
+use Rattle.definition.specs.Check.{slotLoad, channelOps}
+use Rattle.definition.specs.Attachments.{Attached, depthStencil, color, resolveTo, depthOps, stencilOps, depthStencilOf, colorOf, rangeIn}
+use Rattle.definition.specs.Pass.{zero32, black, attachmentReply}
+use Rattle.definition.specs.declared.View.{View}
+use Rattle.definition.specs.declared.Channel.{Channel}
+use Rattle.definition.specs.declared.Color.{Color}
+use Rattle.definition.specs.declared.Slot.{Slot}
+use Rattle.definition.specs.declared.Seen.{Seen}
+use Rattle.definition.specs.declared.Surface.{Surface}
+use Rattle.laws.specs.Surfaces.{RangeInside}
+use Rattle.laws.specs.Views.{ValidView}
+use Rattle.laws.proofs.Tests.{clash, and-left, and-right, and-on, or-on-left, or-on-right, not-off}
+use Rattle.laws.proofs.Surfaces.{hits-in, layers-all, named-one}
+use Rattle.laws.proofs.Verdicts.{then-left, then-right, unless-on}
+use Rattle.laws.proofs.Folds.{views-each}
+use Rattle.laws.proofs.Views.{valid-view, range-surface, flat-view, renderable-mip}
+use Rattle.noninterference.specs.Memory.{Aspect, colorAspect, depthAspect, stencilAspect, formatHas, Clear, ofColor, ofDepth, ofStencil, nothing, Part, partIn, useOf}
+use Rattle.noninterference.proofs.Plans.{inputOf, partOf, partsOf, plannedUse, hasPart, proper}
+use Rattle.noninterference.proofs.Sound.{Sound}
+
+-- ── formats
+
+-- A colour format has no other aspect.
+color-depth : (f : ℕ) → isColor f ≡ true → hasDepth f ≡ false
+unfolding isColor hasDepth
+color-depth f h = go (leb 21 f) refl
+  where
+    go : (b : Bool) → leb 21 f ≡ b → (b && leb f 25) ≡ false
+    go true e = absurd (omega (arith, leb-true 21 f e, leb-true f 14 (and-right (leb 1 f) (leb f 14) h)))
+    go false e = refl
+
+color-stencil : (f : ℕ) → isColor f ≡ true → hasStencil f ≡ false
+unfolding isColor hasStencil
+color-stencil f h =
+    let g : f ≤ 14 = leb-true f 14 (and-right (leb 1 f) (leb f 14) h) in
+    simp (ne-eqb f 20 (λ e. omega arith), ne-eqb f 23 (λ e. omega arith), ne-eqb f 25 (λ e. omega arith))
+
+-- A depth-stencil format is no colour format, and has one of the two aspects.
+pub depth-color : (f : ℕ) → isDepthStencil f ≡ true → isColor f ≡ false
+unfolding isColor isDepthStencil
+depth-color f h = go (leb 1 f && leb f 14) refl
+  where
+    go : (b : Bool) → (leb 1 f && leb f 14) ≡ b → (leb 1 f && leb f 14) ≡ false
+    go true e = absurd (omega (arith, leb-true 20 f (and-left (leb 20 f) (leb f 25) h), leb-true f 14 (and-right (leb 1 f) (leb f 14) e)))
+    go false e = e
+
+depth-some : (f : ℕ) → isDepthStencil f ≡ true → (hasDepth f || hasStencil f) ≡ true
+unfolding isDepthStencil hasDepth hasStencil
+depth-some f h = go (eqb f 20) refl
+  where
+    go : (b : Bool) → eqb f 20 ≡ b → ((leb 21 f && leb f 25) || (eqb f 20 || eqb f 23 || eqb f 25)) ≡ true
+    go true e = or-on-right (leb 21 f && leb f 25) (eqb f 20 || eqb f 23 || eqb f 25) (rw e)
+    go false e =
+        or-on-left (leb 21 f && leb f 25) _
+        (and-on (leb 21 f) (leb f 25) (le-leb 21 f (omega (arith, eqb-false f 20 e, leb-true 20 f (and-left (leb 20 f) (leb f 25) h)))) (and-right (leb 20 f) (leb f 25) h))
+
+-- ── the parts of an attachment are its format's aspects
+
+color-aspects : (f : ℕ) → isColor f ≡ true → (q : Part) → q .aspect ≡ colorAspect → (a : Aspect) → formatHas f a ≡ hasPart (q ∷ []) a
+color-aspects f h q e colorAspect = rw (h, e)
+color-aspects f h q e depthAspect = rw (color-depth f h, e)
+color-aspects f h q e stencilAspect = rw (color-stencil f h, e)
+
+depth-aspects : (f : ℕ) → isDepthStencil f ≡ true → (hd hs : Bool) → hasDepth f ≡ hd → hasStencil f ≡ hs
+    → (d s : Part) → d .aspect ≡ depthAspect → s .aspect ≡ stencilAspect
+    → (a : Aspect) → formatHas f a ≡ hasPart (cond hd (d ∷ []) [] ++ cond hs (s ∷ []) []) a
+depth-aspects f h true true i j d s p q colorAspect = rw (depth-color f h, p, q)
+depth-aspects f h true false i j d s p q colorAspect = rw (depth-color f h, p)
+depth-aspects f h false true i j d s p q colorAspect = rw (depth-color f h, q)
+depth-aspects f h false false i j d s p q colorAspect = rw (depth-color f h)
+depth-aspects f h true true i j d s p q depthAspect = rw (i, p)
+depth-aspects f h true false i j d s p q depthAspect = rw (i, p)
+depth-aspects f h false true i j d s p q depthAspect = rw (i, q)
+depth-aspects f h false false i j d s p q depthAspect = rw i
+depth-aspects f h true true i j d s p q stencilAspect = rw (j, p, q)
+depth-aspects f h true false i j d s p q stencilAspect = rw (j, p)
+depth-aspects f h false true i j d s p q stencilAspect = rw (j, q)
+depth-aspects f h false false i j d s p q stencilAspect = rw j
+
+-- ── the reply tells the parts
+
+part-told : {X : Type 0} (a : Aspect) (f : X → Clear) (o : X) (l : LoadOp X) (k : Bool)
+    → partIn a (loadBits l + storeBits k) (f (clearValue o l)) ≡ record { aspect = a; input = inputOf f l; keep = k }
+part-told a f o loadOp true = refl
+part-told a f o loadOp false = refl
+part-told a f o (clearOp x) true = refl
+part-told a f o (clearOp x) false = refl
+part-told a f o dontCare true = refl
+part-told a f o dontCare false = refl
+
+resolve-told : (S : Session) (n d : ℕ) → isColor (formatOf S (S .view n)) ≡ true
+    → useOf S d (attachmentReply S (resolveTo n (viewRange (S .view n)))) ≡ plannedUse (resolveTo n (viewRange (S .view n)))
+resolve-told S n d h = rw h
+
+color-told : (S : Session) (n d : ℕ) (o : Ops Color) → isColor (formatOf S (S .view n)) ≡ true
+    → useOf S d (attachmentReply S (color n (viewRange (S .view n)) o)) ≡ plannedUse (color n (viewRange (S .view n)) o)
+color-told S n d o h =
+    rw h (ap (λ q. record { surfaces = layersOf (viewRange (S .view n)); parts = q ∷ []; divergent = 0 }) (part-told colorAspect ofColor black (o .load) (o .keep)))
+
+depth-told : (S : Session) (n : ℕ) (d : Ops Float) (s : Ops ℕ) (hd hs : Bool) (div : ℕ)
+    → isColor (formatOf S (S .view n)) ≡ false → hasDepth (formatOf S (S .view n)) ≡ hd → hasStencil (formatOf S (S .view n)) ≡ hs
+    → useOf S div (attachmentReply S (depthStencil n (viewRange (S .view n)) hd hs d s))
+    ≡ record { surfaces = layersOf (viewRange (S .view n)); parts = partsOf (depthStencil n (viewRange (S .view n)) hd hs d s); divergent = div }
+depth-told S n d s hd hs div h p q =
+    rw (h, p, q)
+    (ap₂ (λ a b. record { surfaces = layersOf (viewRange (S .view n)); parts = cond hd (a ∷ []) [] ++ cond hs (b ∷ []) []; divergent = div })
+    (part-told depthAspect ofDepth zero32 (d .load) (d .keep)) (part-told stencilAspect ofStencil 0 (s .load) (s .keep)))
+
+-- ── the session's conditions
+
+-- Every view has one layer; no texture is 3D.
+abbrev pub Single : Session → Type 0
+Single S = (k : ℕ) → k < S .viewCount → S .view k .layers ≡ 1
+
+abbrev pub Flat : Session → Type 0
+Flat S = (t : ℕ) → t < S .textureCount → eqb (S .texture t .dimension) 3 ≡ false
+
+-- What number 4 gives of a view, and what the conditions do.
+pub record ViewFacts (S : Session) (v : View) : Type 0 where
+  pub valid : ValidView S v
+  pub single : Single S → v .layers ≡ 1
+  pub flat : Flat S → isD3 v ≡ false
+
+pub view-facts : (S : Session) → viewsRight S ≡ true → (k : ℕ) → ltb k (S .viewCount) ≡ true → ViewFacts S (S .view k)
+view-facts S vs k h =
+    let g : k < S .viewCount = ltb-true k (S .viewCount) h in
+    let valid : ValidView S (S .view k) = valid-view S (S .view k) (views-each S (S .viewCount) vs k g) in
+    record {
+      valid = valid;
+      single = λ one. one k g;
+      flat = λ fl. flat-view (S .view k .dimension) (S .texture (S .view k .texture) .dimension) (valid .dimension) (fl (S .view k .texture) (valid .range .texture));
+    }
+
+-- An attachment of one mip and one layer of the session. (With every layer named by a discard, the layers would not matter.)
+sound-of : (S : Session) (x : Attached) → RangeInside S (rangeIn x) → rangeIn x .mips ≡ 1 → rangeIn x .layers ≡ 1 → proper x ≡ true
+    → ((a : Aspect) → formatHas (S .texture (rangeIn x .texture) .format) a ≡ hasPart (partsOf x) a) → Sound S x
+sound-of S x range mip layer strict aspects = record {
+  strict = strict;
+  names = named-one (rangeIn x) mip layer;
+  spreads = layers-all (rangeIn x) mip;
+  inside = range-surface S (rangeIn x) range;
+  aspects = λ s e a. ap (λ t. formatHas (S .texture t .format) a) (hits-in (rangeIn x) s e .texture) ∙ aspects a;
+}
+
+-- An attachment that is no slice takes what its action reaches.
+flat-takes : (v : View) (slice : ℕ) → isD3 v ≡ false → takes v slice ≡ layersOf (viewRange v)
+unfolding takes
+flat-takes v slice h = rw (h, takes)
+
+pub takes-reached : (v : View) (slice : ℕ) → v .mips ≡ 1 → isD3 v ≡ false → (s : Surface) → elem s (takes v slice) ≡ hits (viewRange v) s
+takes-reached v slice mip h s = ap (elem s) (flat-takes v slice h) ∙ layers-all (viewRange v) mip s
+
+-- ── colours and resolve targets
+
+pub record ColorFacts (S : Session) (x : Attached) : Type 0 where
+  pub sound : strict S ≡ true → Single S → Sound S x
+  pub range : RangeInside S (rangeIn x)
+  pub mip : rangeIn x .mips ≡ 1
+  pub colored : isColor (S .texture (rangeIn x .texture) .format) ≡ true
+  pub told : (d : ℕ) → useOf S d (attachmentReply S x) ≡ plannedUse x
+
+pub strict-off : (x b : Bool) → not (x && b) ≡ true → b ≡ true → x ≡ false
+strict-off true b h e = clash e (not-off b h)
+strict-off false b h e = refl
+
+-- A resolve target: 41, 34, 43.
+pub target-facts : (S : Session) (v : View) (n place : ℕ) (q : Seen) (taken : List Surface) → ViewFacts S (S .view n) → isColor (formatOf S v) ≡ true
+    → isFine (resolveView S q taken v (S .view n) place) ≡ true
+    → ColorFacts S (resolveTo n (viewRange (S .view n))) × (meets (takes (S .view n) 0) taken ≡ false)
+unfolding resolveView targetView targetOf overlapVerdict
+target-facts S v n place q taken known col h =
+    let r : View = S .view n in
+    let from-48 = then-right (multiviewVerdict S q r place) _ (then-left (targetView S q taken r place) _ h) in
+    let from-41 = then-right (unless (isD2 r || isD2Array r) 48 place) _ from-48 in
+    let on-34 = then-right (overlapVerdict taken r 0 place) _ from-41 in
+    let from-42 = then-right _ _ (then-right (targetView S q taken r place) _ h) in
+    let from-43 = then-right _ _ from-42 in
+    let same-format : formatOf S v ≡ formatOf S r = eqb-true _ _ (unless-on (eqb (formatOf S v) (formatOf S r)) 43 place refl (then-left _ _ from-43)) in
+    let rcol : isColor (formatOf S r) ≡ true = ap isColor (sym same-format) ∙ col in
+    let mip : r .mips ≡ 1 = renderable-mip r (unless-on (renderable r) 34 place refl on-34) in (
+      record {
+        sound = λ st one. sound-of S (resolveTo n (viewRange r)) (known .valid .range) mip (known .single one) refl
+            (color-aspects (formatOf S r) rcol (record { aspect = colorAspect; input = nothing; keep = true }) refl);
+        range = known .valid .range;
+        mip = mip;
+        colored = rcol;
+        told = λ d. resolve-told S n d rcol;
+      },
+      not-off _ (unless-on (not (meets (takes r 0) taken)) 41 place refl (then-left _ _ from-41)),
+    )
+
+-- A colour: 11, 34, 37, 41.
+pub color-facts : (S : Session) (c : Slot) (k : ℕ) (q : Seen) (taken : List Surface) → ViewFacts S (S .view (c .view)) → (strict S ≡ true → ignores (slotLoad c) ≡ false)
+    → isFine (colorView S q taken c (S .view (c .view)) k) ≡ true
+    → ColorFacts S (colorOf S c) × (meets (takes (S .view (c .view)) (c .slice)) taken ≡ false)
+unfolding colorView viewVerdict overlapVerdict
+color-facts S c k q taken known cares h =
+    let v : View = S .view (c .view) in
+    let from-34 = then-right (multiviewVerdict S q v k) _ h in
+    let from-37 = then-right (viewVerdict S q v k) _ from-34 in
+    let from-38 = then-right (unless (isColor (formatOf S v)) 37 k) _ from-37 in
+    let col : isColor (formatOf S v) ≡ true = unless-on (isColor (formatOf S v)) 37 k refl (then-left _ _ from-37) in
+    let mip : v .mips ≡ 1 = renderable-mip v (unless-on (renderable v) 34 k refl (then-left _ _ (then-left (viewVerdict S q v k) _ from-34))) in (
+      record {
+        sound = λ st one. sound-of S (colorOf S c) (known .valid .range) mip (known .single one) (ap not (cares st))
+            (color-aspects (formatOf S v) col (partOf colorAspect ofColor (operational (slotLoad c) (keepOf (c .store)))) refl);
+        range = known .valid .range;
+        mip = mip;
+        colored = col;
+        told = λ d. color-told S (c .view) d (operational (slotLoad c) (keepOf (c .store))) col;
+      },
+      not-off _ (unless-on (not (meets (takes v (c .slice)) taken)) 41 k refl (then-right (sliceVerdict S c v k) _ from-38)),
+    )
+
+-- ── the depth-stencil attachment
+
+-- In a strict session no resolved channel has DontCare.
+store-cares : {Y : Type 0} (l : LoadOp Y) (store : Option Bool) → ignores l ≡ false → ignores (resolvedOps (withStore l store) .load) ≡ false
+store-cares l none h = refl
+store-cares l (some keep) h = h
+
+clear-cares : {Y : Type 0} (x : Handled Y) (store : Option Bool) → ignores (resolvedOps (withClear x store) .load) ≡ false
+clear-cares (value y) store = store-cares (clearOp y) store refl
+clear-cares (refusal n) store = refl
+
+ops-cares : {X Y : Type 0} (handle : X → Handled Y) (load : Option (LoadOp X)) (store : Option Bool)
+    → ignores (resolvedOps (resolveOps handle true load store) .load) ≡ false
+ops-cares handle none store = refl
+ops-cares handle (some loadOp) store = store-cares loadOp store refl
+ops-cares handle (some (clearOp x)) store = clear-cares (handle x) store
+ops-cares handle (some dontCare) store = refl
+
+read-only-cares : (Y : Type 0) {X : Type 0} (load : Option (LoadOp X)) (store : Option Bool) → ignores (resolvedOps {X = Y} (resolveReadOnly load store) .load) ≡ false
+read-only-cares Y (some l) store = refl
+read-only-cares Y none (some keep) = refl
+read-only-cares Y none none = refl
+
+resolve-cares : {X Y : Type 0} (handle : X → Handled Y) (c : PassChannel X) → ignores (resolvedOps (resolve handle true c) .load) ≡ false
+unfolding resolve
+resolve-cares {X} {Y} handle c = go (c .readOnly)
+  where
+    go : (b : Bool) → ignores (resolvedOps {X = Y} (cond b (resolveReadOnly (c .load) (c .store)) (resolveOps handle true (c .load) (c .store))) .load) ≡ false
+    go true = read-only-cares Y (c .load) (c .store)
+    go false = ops-cares handle (c .load) (c .store)
+
+depth-cares : (has : Bool) (c : Channel) → not (has && ignores (resolvedOps (depthResolved has true c) .load)) ≡ true
+unfolding depthResolved resolveDepth
+depth-cares true c = ap not (resolve-cares handleDepth (depthChannel c))
+depth-cares false c = refl
+
+stencil-cares : (has : Bool) (c : Channel) → not (has && ignores (resolvedOps (stencilResolved has true c) .load)) ≡ true
+unfolding stencilResolved resolveStencil
+stencil-cares true c = ap not (resolve-cares handleStencil (stencilChannel c))
+stencil-cares false c = refl
+
+-- 13, 23, 34.
+pub record DepthFacts (S : Session) (p : Pass) : Type 0 where
+  pub sound : strict S ≡ true → Single S → Sound S (depthStencilOf S p (S .view (p .depthStencil)))
+  pub range : RangeInside S (viewRange (S .view (p .depthStencil)))
+  pub mip : S .view (p .depthStencil) .mips ≡ 1
+  pub format : isDepthStencil (formatOf S (S .view (p .depthStencil))) ≡ true
+  pub told : (d : ℕ) → useOf S d (attachmentReply S (depthStencilOf S p (S .view (p .depthStencil))))
+      ≡ record { surfaces = layersOf (viewRange (S .view (p .depthStencil))); parts = partsOf (depthStencilOf S p (S .view (p .depthStencil))); divergent = d }
+
+pub depth-facts : (S : Session) (p : Pass) → ViewFacts S (S .view (p .depthStencil))
+    → isFine (channelOps (strict S) (transient (S .view (p .depthStencil))) (formatOf S (S .view (p .depthStencil))) (p .depth) (p .stencil)) ≡ true
+    → isFine (depthStencilView S (S .view (p .depthStencil))) ≡ true → DepthFacts S p
+unfolding channelOps depthStencilView viewVerdict
+depth-facts S p known ops h =
+    let v : View = S .view (p .depthStencil) in
+    let f : ℕ = formatOf S v in
+    let ds : isDepthStencil f ≡ true = unless-on (isDepthStencil f) 13 atDepthStencil refl (then-left _ _ ops) in
+    let mip : v .mips ≡ 1 = renderable-mip v (unless-on (renderable v) 34 atDepthStencil refl (then-left _ _ (then-right (multiviewVerdict S noneSeen v atDepthStencil) (viewVerdict S noneSeen v atDepthStencil) h))) in
+    record {
+      sound = λ st one. sound-of S (depthStencilOf S p v) (known .valid .range) mip (known .single one)
+          (and-on ((hasDepth f || hasStencil f) && not (hasDepth f && ignores (depthOps S p f .load))) _
+          (and-on (hasDepth f || hasStencil f) _ (depth-some f ds)
+          (subst (λ b. not (hasDepth f && ignores (resolvedOps (depthResolved (hasDepth f) b (p .depth)) .load)) ≡ true) (sym st) (depth-cares (hasDepth f) (p .depth))))
+          (subst (λ b. not (hasStencil f && ignores (resolvedOps (stencilResolved (hasStencil f) b (p .stencil)) .load)) ≡ true) (sym st) (stencil-cares (hasStencil f) (p .stencil))))
+          (depth-aspects f ds (hasDepth f) (hasStencil f) refl refl (partOf depthAspect ofDepth (depthOps S p f)) (partOf stencilAspect ofStencil (stencilOps S p f)) refl refl);
+      range = known .valid .range;
+      mip = mip;
+      format = ds;
+      told = λ d. depth-told S (p .depthStencil) (depthOps S p f) (stencilOps S p f) (hasDepth f) (hasStencil f) d (depth-color f ds) refl refl;
+    }

@@ -1,0 +1,217 @@
+-- From a fresh state number 6 never arises: what each call leaves can be lent to the next, the clears because a pass adds at most nine entries to at most 64.
+use mathlib.Core.Path.{_≡_, refl, sym, ap, subst, _∙_}
+use mathlib.Core.Bool.{Bool, true, false, not, cond}
+use mathlib.Core.List.{List, [], _∷_}
+use mathlib.Core.Option.{Option, none, some}
+use Prim.Native.Nat.{ℕ, zero, suc, _+_, _<_, _≤_}
+use native.Mathlib.Omega.{arith}
+use lib.Dec.{ltb}
+use lib.ListN.{length}
+use borrow.Author.Tests.{leb-true, le-leb, lt-ltb}
+use Rattle.definition.specs.Sizes.{maxSurfaces, maxDiscards, maxActions, maxClears}
+use Rattle.definition.specs.Session.{Pass, Session, surfaceCount, surfacesOf}
+use Rattle.definition.specs.Verdict.{nowhere, isFine, refusedAt, unless}
+use Rattle.definition.specs.Readable.{viewsRight}
+use Rattle.definition.specs.Surfaces.{hits, firstOf, named}
+use Rattle.definition.specs.MemoryInit.{Lists, matching, registerInitAction, registered, discarded}
+use Rattle.definition.specs.Check.{check}
+use Rattle.definition.specs.Attachments.{Attached, rangeIn, kindOf, discards, attach, attachAll, attachments}
+use Rattle.definition.specs.Pass.{discardsFit, actionsFit, roomVerdict, newPass, passVerdict, acceptedPass, refusedPass, outcome, checkPass}
+use Rattle.definition.specs.Submission.{submitLists}
+use Rattle.definition.specs.Calls.{State, fresh, Call, pass, submit, surfaceRight, rangeRight, surfacesRight, actionsRight, bytesRight, countsRight, lentRight, passCall, passStep, submitState, called, call, after}
+use Rattle.definition.specs.Program.{line, endsBuffer, lines}
+use Rattle.definition.specs.declared.Range.{Range}
+use Rattle.definition.specs.declared.MemoryInitKind.{MemoryInitKind}
+use Rattle.definition.specs.declared.MemoryInitKind.the-variants.{ImplicitlyInitialized, NeedsInitializedMemory}
+use Rattle.laws.proofs.Tests.{and-on}
+use Rattle.laws.proofs.Surfaces.{inside-range}
+use Rattle.laws.proofs.Verdicts.{then-left, then-right, unless-on}
+use Rattle.laws.proofs.Places.{surfaces-counted}
+use Rattle.laws.proofs.Submission.{submit-right, bytes-long, bytes-fresh}
+use Rattle.laws.proofs.Room.{all-held, pass-listed, discards-fit}
+use Rattle.laws.proofs.Lent.{surfaces-append, actions-append, surfaces-retain, first-right, implicits-right}
+use Rattle.noninterference.specs.Theorem.{lineOf, endState, printed}
+use Rattle.noninterference.proofs.Passes.{All, all-map}
+use Rattle.noninterference.proofs.Accepted.{Reads, check-reads, Ranged, accepted-okay}
+
+-- ── records in range
+
+module _ (S : Session) where
+  -- Lists whose records are right.
+  record Right (l : Lists) : Type 0 where
+    discards : surfacesRight S (l .discards) ≡ true
+    actions : actionsRight S (l .actions) ≡ true
+    clears : surfacesRight S (l .clears) ≡ true
+
+  registered-right : (r : Range) (k : Option MemoryInitKind) (l : Lists) → rangeRight S r ≡ true → Right l → Right (registered r k l)
+  unfolding registerInitAction
+  registered-right r none l g h = h
+  registered-right r (some NeedsInitializedMemory) l g h = record {
+    discards = surfaces-retain S (λ s. not (hits r s)) (l .discards) (h .discards);
+    actions = actions-append S (l .actions) _
+        ∙ and-on (actionsRight S (l .actions)) _ (h .actions)
+        (and-on (rangeRight S r) _ g (implicits-right S (matching r (l .discards)) (surfaces-retain S (hits r) (l .discards) (h .discards))));
+    clears = surfaces-append S (l .clears) (matching r (l .discards))
+        ∙ and-on (surfacesRight S (l .clears)) _ (h .clears) (surfaces-retain S (hits r) (l .discards) (h .discards));
+  }
+  registered-right r (some ImplicitlyInitialized) l g h = record {
+    discards = surfaces-retain S (λ s. not (hits r s)) (l .discards) (h .discards);
+    actions = actions-append S (l .actions) _ ∙ and-on (actionsRight S (l .actions)) _ (h .actions) (and-on (rangeRight S r) true g refl);
+    clears = h .clears;
+  }
+
+  discarded-right : (r : Range) (b : Bool) (l : Lists) → rangeRight S r ≡ true → Right l → Right (discarded r b l)
+  discarded-right r true l g h = record {
+    discards = surfaces-append S (l .discards) (named r)
+        ∙ and-on (surfacesRight S (l .discards)) _ (h .discards) (and-on (surfaceRight S (firstOf r)) true (first-right S r g) refl);
+    actions = h .actions;
+    clears = h .clears;
+  }
+  discarded-right r false l g h = h
+
+  attach-right : (x : Attached) (l : Lists) → rangeRight S (rangeIn x) ≡ true → Right l → Right (attach x l)
+  attach-right x l g h = discarded-right (rangeIn x) (discards x) (registered (rangeIn x) (kindOf x) l) g (registered-right (rangeIn x) (kindOf x) l g h)
+
+-- ── the ranges of an accepted pass are the session's
+
+abbrev RangeRight : Session → Attached → Type 0
+RangeRight S x = rangeRight S (rangeIn x) ≡ true
+
+all-right : (S : Session) (xs : List Attached) (l : Lists) → All (RangeRight S) xs → Right S l → Right S (attachAll xs l)
+all-right S [] l a h = h
+all-right S (x ∷ xs) l a h = all-right S xs (attach x l) (a .1) (attach-right S x l (a .0) h)
+
+pass-right : (S : Session) → viewsRight S ≡ true → (p : Pass) → isFine (check S p .verdict) ≡ true → All (RangeRight S) (attachments S p)
+pass-right S vs p h = all-map (Ranged S) (RangeRight S) (λ x k. inside-range S (rangeIn x) (k .range)) (attachments S p) (accepted-okay S vs p h .ranged)
+
+-- ── what can be lent
+
+module _ (S : Session) (room : surfaceCount S ≤ maxSurfaces) (vs : viewsRight S ≡ true) where
+  record Lendable (σ : State) : Type 0 where
+    right : Right S (σ .lists)
+    discards : length (σ .lists .discards) ≤ maxDiscards
+    actions : length (σ .lists .actions) ≤ maxActions
+    clears : length (σ .lists .clears) ≤ maxClears
+    status : bytesRight (length (surfacesOf S)) (σ .status) ≡ true
+
+  lendable-right : (σ : State) → Lendable σ → lentRight S σ ≡ true
+  unfolding lentRight countsRight
+  lendable-right σ h = simp (
+    le-leb (length (σ .lists .discards)) maxDiscards (h .discards),
+    le-leb (length (σ .lists .actions)) maxActions (h .actions),
+    le-leb (length (σ .lists .clears)) maxClears (h .clears),
+    h .right .discards,
+    h .right .actions,
+    h .right .clears,
+    ap (λ n. bytesRight n (σ .status)) (sym (surfaces-counted S)) ∙ h .status,
+  )
+
+  fresh-lendable : Lendable fresh
+  fresh-lendable = record {
+    right = record { discards = refl; actions = refl; clears = refl };
+    discards = omega arith;
+    actions = omega arith;
+    clears = omega arith;
+    status = bytes-fresh (length (surfacesOf S)) maxSurfaces (omega (arith, room, surfaces-counted S));
+  }
+
+  submit-lendable : (σ : State) → Lendable σ → Lendable (submitState S σ)
+  submit-lendable σ h = record {
+    right = record { discards = refl; actions = refl; clears = h .right .clears };
+    discards = omega arith;
+    actions = omega arith;
+    clears = h .clears;
+    status = submit-right (σ .lists .actions) (σ .lists .discards) (surfacesOf S) (σ .status) (h .status);
+  }
+
+  pass-lendable : (p : Pass) (σ : State) → Lendable σ → Lendable (passStep (checkPass S p (σ .lists)) σ .state)
+  unfolding checkPass outcome roomVerdict
+  pass-lendable p σ h = go (isFine (passVerdict (check S p) (attachments S p) (σ .lists))) refl
+    where
+      xs : List Attached
+      xs = attachments S p
+
+      l : Lists
+      l = newPass (σ .lists)
+
+      fits : isFine (passVerdict (check S p) xs (σ .lists)) ≡ true → Lendable (record { lists = attachAll xs l; status = σ .status })
+      fits e =
+          let judged : isFine (check S p .verdict) ≡ true = then-left (check S p .verdict) (roomVerdict xs l) e in
+          let reads : Reads S p = check-reads S p judged in
+          let rm : isFine (roomVerdict xs l) ≡ true = then-right (check S p .verdict) (roomVerdict xs l) e in
+          record {
+            right = all-right S xs l (pass-right S vs p judged) (record { discards = h .right .discards; actions = h .right .actions; clears = refl });
+            discards = discards-fit xs l (unless-on (discardsFit xs l) 49 nowhere refl (then-left (unless (discardsFit xs l) 49 nowhere) (unless (actionsFit xs l) 50 nowhere) rm)) (h .discards);
+            actions = leb-true (length (attachAll xs l .actions)) maxActions (unless-on (actionsFit xs l) 50 nowhere refl (then-right (unless (discardsFit xs l) 49 nowhere) (unless (actionsFit xs l) 50 nowhere) rm));
+            clears = omega (arith, all-held xs l, pass-listed S p, reads .colors, h .discards);
+            status = h .status;
+          }
+
+      go : (b : Bool) → isFine (passVerdict (check S p) xs (σ .lists)) ≡ b
+          → Lendable (passStep (cond b (acceptedPass S (check S p .seen) xs (σ .lists)) (refusedPass (passVerdict (check S p) xs (σ .lists)) (σ .lists))) σ .state)
+      go true e = fits e
+      go false e = record { right = h .right; discards = h .discards; actions = h .actions; clears = h .clears; status = h .status }
+
+  called-lendable : (c : Call) (σ : State) → Lendable σ → Lendable (called S c σ .state)
+  unfolding passCall
+  called-lendable (pass i) σ h = go (ltb i (S .passCount))
+    where
+      go : (b : Bool) → Lendable (passStep (cond b (checkPass S (S .pass i) (σ .lists)) (refusedPass (refusedAt 5 nowhere) (σ .lists))) σ .state)
+      go true = pass-lendable (S .pass i) σ h
+      go false = record { right = h .right; discards = h .discards; actions = h .actions; clears = h .clears; status = h .status }
+  called-lendable submit σ h = submit-lendable σ h
+
+  -- ── the calls
+
+  -- A call that is lent what is right is not refused as 6.
+  pub call-called : (c : Call) (σ : State) → lentRight S σ ≡ true → call S c σ ≡ called S c σ
+  unfolding call
+  call-called c σ h = rw (h, call)
+
+  call-lendable : (c : Call) (σ : State) → Lendable σ → Lendable (call S c σ .state)
+  call-lendable c σ h = subst (λ t. Lendable (t .state)) (sym (call-called c σ (lendable-right σ h))) (called-lendable c σ h)
+
+  after-lendable : (cs : List Call) (σ : State) → Lendable σ → Lendable (after S cs σ)
+  after-lendable [] σ h = h
+  after-lendable (c ∷ cs) σ h = after-lendable cs (call S c σ .state) (call-lendable c σ h)
+
+  pub never-six : (cs : List Call) → lentRight S (after S cs fresh) ≡ true
+  never-six cs = lendable-right (after S cs fresh) (after-lendable cs fresh fresh-lendable)
+
+  -- There is a status byte for each surface.
+  pub bytes-left : (cs : List Call) → length (surfacesOf S) ≤ length (after S cs fresh .status)
+  bytes-left cs = bytes-long (length (surfacesOf S)) (after S cs fresh .status) (after-lendable cs fresh fresh-lendable .status)
+
+  -- A submission after any calls is one.
+  pub submit-called : (cs : List Call) → call S submit (after S cs fresh) .state ≡ submitState S (after S cs fresh)
+  submit-called cs = ap (λ t. t .state) (call-called submit (after S cs fresh) (never-six cs))
+
+  -- ── the program as calls
+
+  end-lendable : (b : Bool) (σ : State) → Lendable σ → Lendable (endState S b σ)
+  end-lendable true σ h = call-lendable submit σ h
+  end-lendable false σ h = h
+
+  end-lists : (b : Bool) (σ : State) → Lendable σ → endState S b σ .lists ≡ cond b (submitLists (σ .lists)) (σ .lists)
+  end-lists true σ h = ap (λ t. t .state .lists) (call-called submit σ (lendable-right σ h))
+  end-lists false σ h = refl
+
+  -- The check of a pass of the session.
+  pass-called : (k : ℕ) (σ : State) → k < S .passCount → Lendable σ → call S (pass k) σ ≡ passStep (checkPass S (S .pass k) (σ .lists)) σ
+  unfolding passCall
+  pass-called k σ g h = call-called (pass k) σ (lendable-right σ h) ∙ rw (lt-ltb k (S .passCount) g)
+
+  lines-printed : (n k : ℕ) (σ : State) → k + n ≡ S .passCount → Lendable σ → printed S k n σ ≡ lines S k n (σ .lists)
+  lines-printed zero k σ e h = refl
+  lines-printed (suc n) k σ e h =
+      subst (λ t. (lineOf k (t .answer) (t .state) ∷ printed S (k + 1) n (endState S (endsBuffer (S .pass k) n) (t .state))) ≡ lines S k (suc n) (σ .lists))
+      (sym (pass-called k σ (omega arith) h))
+      (ap (λ l. line k (checkPass S (S .pass k) (σ .lists)) ∷ l)
+      (lines-printed n (k + 1) (endState S (endsBuffer (S .pass k) n) next) (omega arith) (end-lendable (endsBuffer (S .pass k) n) next (pass-lendable (S .pass k) σ h))
+      ∙ ap (lines S (k + 1) n) (end-lists (endsBuffer (S .pass k) n) next (pass-lendable (S .pass k) σ h))))
+    where
+      next : State
+      next = record { lists = checkPass S (S .pass k) (σ .lists) .lists; status = σ .status }
+
+  pub fresh-printed : printed S 0 (S .passCount) fresh ≡ lines S 0 (S .passCount) (fresh .lists)
+  fresh-printed = lines-printed (S .passCount) 0 fresh (omega arith) fresh-lendable

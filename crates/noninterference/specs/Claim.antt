@@ -1,0 +1,82 @@
+-- Demand 3: what is claimed of a session, for any list of calls from a fresh state and after each of them.
+use mathlib.Core.Path.{_≡_}
+use mathlib.Core.Bool.{Bool, true, false, not, _&&_}
+use mathlib.Core.List.{List, [], _∷_, _++_}
+use mathlib.Core.Option.{Option, none, some}
+use Prim.Native.Nat.{ℕ}
+use lib.ListN.{take}
+use Rattle.definition.specs.Session.{Session}
+use Rattle.definition.specs.Status.{filled}
+use Rattle.definition.specs.Calls.{Call, answers, after, fresh}
+use Rattle.definition.specs.declared.Surface.{Surface}
+use Rattle.laws.specs.Surfaces.{Inside}
+use Rattle.noninterference.specs.Memory.{Aspect, hasAspect, Part, Use, Told, Event, refused, accepted, done, events, Cells, Drawing, Contents, byteOf, useAt, loaded, cells}
+
+-- ── what the calls tell, and what they leave
+
+-- The memory is told what the calls answer, from a fresh state.
+abbrev pub heard : Session → List Call → List Event
+heard S calls = events S 0 (answers S calls fresh)
+
+-- The status byte of a surface after the calls.
+abbrev pub byteAt : Session → List Call → Surface → ℕ
+byteAt S calls s = byteOf S (after S calls fresh .status) s
+
+-- What the passes load or clear to, pass by pass, and the memory after the calls.
+abbrev pub loadedBy : {Val : Type 0} → Drawing Val → Contents Val → Session → List Call → List (List Val)
+loadedBy D c S calls = loaded D (c .left) S (heard S calls) [] (c .first)
+
+abbrev pub memoryAfter : {Val : Type 0} → Drawing Val → Contents Val → Session → List Call → Cells Val
+memoryAfter D c S calls = cells D (c .left) S (heard S calls) [] (c .first)
+
+-- ── the last pass that had a surface
+
+-- The passes submitted, in order, after hs and with ws waiting.
+abbrev pub submittedFrom : List Event → List Told → List Told → List Told
+submittedFrom [] hs ws = hs
+submittedFrom (refused ∷ es) hs ws = submittedFrom es hs ws
+submittedFrom (accepted w ∷ es) hs ws = submittedFrom es hs (ws ++ (w ∷ []))
+submittedFrom (done status ∷ es) hs ws = submittedFrom es (hs ++ ws) []
+
+abbrev pub submittedPasses : Session → List Call → List Told
+submittedPasses S calls = submittedFrom (heard S calls) [] []
+
+-- What the last of the passes that had the surface as an attachment did there, or else o.
+abbrev pub later : Option Use → Option Use → Option Use
+later none o = o
+later (some u) o = some u
+
+abbrev pub lastUse : Option Use → List Told → Surface → Option Use
+lastUse o [] s = o
+lastUse o (w ∷ ws) s = lastUse (later (useAt s (w .uses)) o) ws s
+
+-- There is one, and it did not discard the surface in every aspect.
+abbrev pub allDiscarded : List Part → Bool
+allDiscarded [] = true
+allDiscarded (q ∷ qs) = not (q .keep) && allDiscarded qs
+
+abbrev pub kept : Option Use → Bool
+kept none = false
+kept (some u) = not (allDiscarded (u .parts))
+
+-- ── the claim
+
+-- Two memories have the same values in a surface.
+abbrev pub Agree : {Val : Type 0} → Session → Surface → Cells Val → Cells Val → Type 0
+Agree S s m n = (a : Aspect) → hasAspect S s a ≡ true → m s a ≡ n s a
+
+-- Two runs over the same calls with the same drawing; the contents at the start and after each discard are c in one and c′ in the other.
+pub record Hidden {Val : Type 0} (D : Drawing Val) (c c′ : Contents Val) (S : Session) (calls : List Call) : Type 0 where
+  -- They load equal values everywhere.
+  pub loads : loadedBy D c S calls ≡ loadedBy D c′ S calls
+  -- After the first n calls, for every n: filled are exactly the surfaces that some submitted pass had as an attachment and that the last
+  -- such pass did not discard in every aspect,
+  pub marks : (n : ℕ) (s : Surface) → Inside S s
+      → filled (byteAt S (take n calls) s) ≡ kept (lastUse none (submittedPasses S (take n calls)) s)
+  -- and these are equal in both.
+  pub equal : (n : ℕ) (s : Surface) → Inside S s → filled (byteAt S (take n calls) s) ≡ true
+      → Agree S s (memoryAfter D c S (take n calls)) (memoryAfter D c′ S (take n calls))
+
+-- For every type of values, drawing, contents at the start and after discards, and list of calls.
+abbrev pub Claim : Session → Type 1
+Claim S = (Val : Type 0) (D : Drawing Val) (c c′ : Contents Val) (calls : List Call) → Hidden D c c′ S calls
