@@ -3,7 +3,7 @@ use Prim.Native.Nat.{ℕ, zero, suc, _+_, _*_}
 use mathlib.Core.List.{List, [], _++_}
 use mathlib.Core.Bool.{Bool, cond}
 use lib.Dec.{eqb}
-use Rattle.definition.specs.Sizes.{headerBytes, textureBytes, viewBytes, passBytes, slotStart, slotBytes, noView}
+use Rattle.definition.specs.Sizes.{headerBytes, textureBytes, viewBytes, passBytes, totalLengthAt, slotStart, slotBytes, noView}
 use Rattle.definition.specs.Bytes.{u32At, f64At, bit}
 use Rattle.definition.specs.Formats.{mipSize}
 use Rattle.definition.specs.Surfaces.{rangeAt, layersFrom}
@@ -65,7 +65,7 @@ abbrev pub flags : List ℕ → ℕ
 flags s = u32At s 32
 
 abbrev pub totalLength : List ℕ → ℕ
-totalLength s = u32At s 36
+totalLength s = u32At s totalLengthAt
 
 -- Textures start after the header; views, then passes, follow without a gap.
 abbrev pub viewStart : List ℕ → ℕ

@@ -1,5 +1,9 @@
--- The sizes and limits that document 01 fixes, each named once.
-use Prim.Native.Nat.{ℕ}
+-- The sizes and limits that document 01 fixes, each named once, and the lengths that follow from them.
+-- `sizes.rt` has the same names in the code; the contract of `every_size` ties the two.
+use Prim.Native.Nat.{ℕ, _+_, _*_}
+use Rattle.definition.specs.declared.sizes.Sizes.{Sizes}
+
+-- ── the file
 
 -- Bytes of the header and of a row of each table.
 abbrev pub headerBytes : ℕ
@@ -13,6 +17,10 @@ viewBytes = 32
 
 abbrev pub passBytes : ℕ
 passBytes = 504
+
+-- Where the total length stands: last in the header.
+abbrev pub totalLengthAt : ℕ
+totalLengthAt = 36
 
 -- In a pass row, where the colour slots start, and the bytes of one.
 abbrev pub slotStart : ℕ
@@ -34,6 +42,10 @@ maxPasses = 100
 abbrev pub maxSlots : ℕ
 maxSlots = 8
 
+-- The length of the longest session: every table full.
+abbrev pub longestSession : ℕ
+longestSession = headerBytes + textureBytes * maxTextures + viewBytes * maxViews + passBytes * maxPasses
+
 -- The most views of a multiview pass, the largest flags field, and the limits of a texture row.
 abbrev pub maxMultiviews : ℕ
 maxMultiviews = 32
@@ -53,7 +65,13 @@ maxMips = 15
 abbrev pub maxUsage : ℕ
 maxUsage = 63
 
--- The most surfaces of a session, and the room of each lent list.
+-- The number that stands for no view.
+abbrev pub noView : ℕ
+noView = 4294967295
+
+-- ── the lent lists
+
+-- The most surfaces of a session, and the room of each list.
 abbrev pub maxSurfaces : ℕ
 maxSurfaces = 4096
 
@@ -66,6 +84,116 @@ maxActions = 512
 abbrev pub maxClears : ℕ
 maxClears = 80
 
--- The number that stands for no view.
-abbrev pub noView : ℕ
-noView = 4294967295
+-- Numbers of a record: a discard or clear is a surface (texture, mip, layer); an action is texture, mip, mips, layer, layers, kind.
+abbrev pub surfaceNumbers : ℕ
+surfaceNumbers = 3
+
+abbrev pub actionNumbers : ℕ
+actionNumbers = 6
+
+-- The same in bytes: a number has four.
+abbrev pub surfaceBytes : ℕ
+surfaceBytes = 4 * surfaceNumbers
+
+abbrev pub actionBytes : ℕ
+actionBytes = 4 * actionNumbers
+
+-- A list in bytes is its count, and then its records, of k numbers each.
+abbrev pub countBytes : ℕ
+countBytes = 4
+
+abbrev pub listBytes : ℕ → ℕ → ℕ
+listBytes k records = countBytes + 4 * (k * records)
+
+-- Bytes that are lent for each list with all its room, and for the status bytes.
+abbrev pub discardsBytes : ℕ
+discardsBytes = listBytes surfaceNumbers maxDiscards
+
+abbrev pub actionsBytes : ℕ
+actionsBytes = listBytes actionNumbers maxActions
+
+abbrev pub clearsBytes : ℕ
+clearsBytes = listBytes surfaceNumbers maxClears
+
+-- Numbers of the records of each list with all its room.
+abbrev pub discardsNumbers : ℕ
+discardsNumbers = surfaceNumbers * maxDiscards
+
+abbrev pub actionsNumbers : ℕ
+actionsNumbers = actionNumbers * maxActions
+
+abbrev pub clearsNumbers : ℕ
+clearsNumbers = surfaceNumbers * maxClears
+
+-- ── a pass and its reply
+
+-- The most attachments: depth-stencil, and each slot's colour and resolve target.
+abbrev pub maxAttachments : ℕ
+maxAttachments = 1 + 2 * maxSlots
+
+-- The most discards that a pass lists: depth-stencil, and each slot's colour.
+abbrev pub maxListed : ℕ
+maxListed = 1 + maxSlots
+
+-- The most actions that a pass adds: one an attachment, one for each discard that it finds or lists; and their numbers.
+abbrev pub maxAdded : ℕ
+maxAdded = maxAttachments + maxDiscards + maxListed
+
+abbrev pub addedNumbers : ℕ
+addedNumbers = actionNumbers * maxAdded
+
+-- Numbers and bytes of a pass's row in the reply to a whole session, and bytes of all rows.
+abbrev pub rowNumbers : ℕ
+rowNumbers = 9
+
+abbrev pub rowBytes : ℕ
+rowBytes = 4 * rowNumbers
+
+abbrev pub rowsBytes : ℕ
+rowsBytes = rowBytes * maxPasses
+
+-- All of them, as the code has them.
+abbrev pub everySize : Sizes
+everySize = record {
+  «header_bytes» = headerBytes;
+  «texture_bytes» = textureBytes;
+  «view_bytes» = viewBytes;
+  «pass_bytes» = passBytes;
+  «total_length_at» = totalLengthAt;
+  «slot_start» = slotStart;
+  «slot_bytes» = slotBytes;
+  «max_textures» = maxTextures;
+  «max_views» = maxViews;
+  «max_passes» = maxPasses;
+  «max_slots» = maxSlots;
+  «longest_session» = longestSession;
+  «max_multiviews» = maxMultiviews;
+  «max_flags» = maxFlags;
+  «max_size» = maxSize;
+  «max_layers» = maxLayers;
+  «max_mips» = maxMips;
+  «max_usage» = maxUsage;
+  «no_view» = noView;
+  «max_surfaces» = maxSurfaces;
+  «max_discards» = maxDiscards;
+  «max_actions» = maxActions;
+  «max_clears» = maxClears;
+  «surface_numbers» = surfaceNumbers;
+  «action_numbers» = actionNumbers;
+  «surface_bytes» = surfaceBytes;
+  «action_bytes» = actionBytes;
+  «count_bytes» = countBytes;
+  «discards_bytes» = discardsBytes;
+  «actions_bytes» = actionsBytes;
+  «clears_bytes» = clearsBytes;
+  «discards_numbers» = discardsNumbers;
+  «actions_numbers» = actionsNumbers;
+  «clears_numbers» = clearsNumbers;
+  «max_attachments» = maxAttachments;
+  «max_listed» = maxListed;
+  «max_added» = maxAdded;
+  «added_numbers» = addedNumbers;
+  «row_numbers» = rowNumbers;
+  «row_bytes» = rowBytes;
+  «rows_bytes» = rowsBytes;
+}
