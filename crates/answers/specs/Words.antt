@@ -5,11 +5,11 @@ use mathlib.Core.List.{List, [], _∷_, _++_}
 use lib.Dec.{leb, ltb, eqb}
 use lib.Ieee.{Float, binary32, binary64, toBits}
 use lib.ListN.{length}
+use Rattle.definition.specs.Sizes.{surfaceNumbers, rowNumbers, rowBytes}
 use Rattle.definition.specs.Bytes.{u32At}
 use Rattle.definition.specs.declared.Attachment.{Attachment}
 use Rattle.definition.specs.declared.Color.{Color}
 use Rattle.lent.specs.Numbers.{numbersAt}
-use Rattle.rows.specs.Rows.{rowBytes, rowNumbers}
 use Rattle.desk.specs.declared.reply.Reply.{Reply}
 use Rattle.answers.specs.declared.Place.{Place}
 
@@ -57,7 +57,7 @@ withheld n = ((eqb n 5 || eqb n 48) || eqb n 49) || eqb n 50
 
 -- Three numbers a surface, of at most a thousand.
 abbrev pub numbersOf : ℕ → ℕ
-numbersOf n = cond (ltb 1000 n) 0 (3 * n)
+numbersOf n = cond (ltb 1000 n) 0 (surfaceNumbers * n)
 
 -- The same words, compared in two ways.
 abbrev pub both : Place → Place → Place

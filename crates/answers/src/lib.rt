@@ -1,9 +1,10 @@
 // The words of an answer: a reply to a pass, held to the next words of a list of answers. harness/README.md has the list's form.
 use definition::Attachment;
 use definition::Color;
+use definition::sizes::MAX_ATTACHMENTS;
+use definition::sizes::ROW_BYTES;
+use definition::sizes::ROW_NUMBERS;
 use desk::reply::Reply;
-use rows::ROW_BYTES;
-use rows::ROW_NUMBERS;
 use wire::bits_of_f32;
 use wire::bits_of_f64;
 use wire::u32_at;
@@ -90,7 +91,7 @@ fn attachment(list: &[u8], p: Place, a: Attachment) -> Place
 }
 
 // The next words are the attachments of a reply.
-fn attachments(list: &[u8], p: Place, count: u32, records: [Attachment; 17]) -> Place
+fn attachments(list: &[u8], p: Place, count: u32, records: [Attachment; MAX_ATTACHMENTS]) -> Place
     ensures { λ r. ⌜ r ≡ nextWords (now (list .entry)) p (attachmentsWords records count) ⌝ }
 {
     let mut q = p;

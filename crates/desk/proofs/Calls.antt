@@ -8,6 +8,7 @@ use native.Mathlib.Omega.{arith}
 use lib.Dec.{eqb}
 use borrow.Author.Tests.{eq-eqb, ne-eqb}
 use lib.ListN.{length}
+use Rattle.definition.specs.Sizes.{surfaceNumbers, actionNumbers}
 use Rattle.definition.specs.Session.{session}
 use Rattle.definition.specs.Readable.{sessionRefusal}
 use Rattle.definition.specs.Calls.{State, Call, pass, submit, Answer, Step, noEntries, lentRight, called, notLent, call}
@@ -36,7 +37,7 @@ pub none-listed : (b : List ℕ) → 4 ≤ length b → (surfacesIn (putNumber 4
 unfolding records
 none-listed b h =
     let e : countIn (putNumber 4 b 0 0) ≡ 0 = sym (put-read b 0 0 h (omega arith)) in
-    (ap (λ n. surfaces n (numbersAt (putNumber 4 b 0 0) 4 (3 * n))) e, ap (λ n. actions n (numbersAt (putNumber 4 b 0 0) 4 (6 * n))) e)
+    (ap (λ n. surfaces n (numbersAt (putNumber 4 b 0 0) 4 (surfaceNumbers * n))) e, ap (λ n. actions n (numbersAt (putNumber 4 b 0 0) 4 (actionNumbers * n))) e)
 
 -- ── a call at an entry point
 

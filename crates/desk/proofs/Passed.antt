@@ -7,7 +7,7 @@ use native.Mathlib.Omega.{arith}
 use lib.Dec.{ltb}
 use lib.ListN.{length}
 use borrow.Author.Tests.{lt-ltb, le-ltb, eqb-true}
-use Rattle.definition.specs.Sizes.{maxDiscards, maxActions}
+use Rattle.definition.specs.Sizes.{maxDiscards, maxActions, surfaceNumbers, actionNumbers, maxAdded}
 use Rattle.definition.specs.Session.{session}
 use Rattle.definition.specs.Verdict.{nowhere, isFine, refusedAt}
 use Rattle.definition.specs.MemoryInit.{Lists}
@@ -26,7 +26,7 @@ use Rattle.lent.specs.Judged.{rightIn, Packed}
 use Rattle.lent.proofs.Packing.{packed-behind, packed-whole, packed-rest}
 use Rattle.render.specs.declared.PassReply.{PassReply}
 use Rattle.render.specs.declared.PassOutcome.{PassOutcome}
-use Rattle.render.specs.Outcome.{maxAdded, Checked}
+use Rattle.render.specs.Outcome.{Checked}
 use Rattle.render.proofs.Behind.{behind, before, check-added, behind-refused, behind-accepted, behind-full}
 use Rattle.desk.specs.declared.reply.Reply.{Reply}
 use Rattle.desk.specs.Entry.{RestStays}
@@ -41,15 +41,15 @@ unlisted n = record { discards = n .discards; actions = 0; clears = 0 }
 module _ (s : List ℕ) (i : ℕ) (n : Counts) (o : PassOutcome) (x x′ y y′ z z′ : List ℕ) (check : Checked (session s) (session s .pass i) (unlisted n) o x x′ y y′ z z′) where
   -- So many actions are added, and these are few.
   added : length (checkPass (session s) (session s .pass i) (held (unlisted n) x y z) .lists .actions) ≡ o .counts .actions
-  added = ap (λ (l : Lists). length (l .actions)) (sym (check .lists)) ∙ records-length 6 decodeAction (o .counts .actions) y′
+  added = ap (λ (l : Lists). length (l .actions)) (sym (check .lists)) ∙ records-length actionNumbers decodeAction (o .counts .actions) y′
 
   pub added-few : n .discards ≤ maxDiscards → o .counts .actions ≤ maxAdded
   added-few few =
       omega (
         arith,
         added,
-        check-added [] (session s) (session s .pass i) (held (unlisted n) x y z) [] (omega (arith, few, records-length 3 decodeSurface (n .discards) x)),
-        records-length 6 decodeAction 0 y,
+        check-added [] (session s) (session s .pass i) (held (unlisted n) x y z) [] (omega (arith, few, records-length surfaceNumbers decodeSurface (n .discards) x)),
+        records-length actionNumbers decodeAction 0 y,
       )
 
 module _ (s : List ℕ) (i : ℕ) (d a c b : List ℕ) (r : Reply) where
@@ -98,7 +98,7 @@ module _ (s : List ℕ) (i : ℕ) (d a c b : List ℕ) (r : Reply) where
 
     -- So many actions are lent.
     held-before : length (actionsIn a) ≡ n .actions
-    held-before = records-length 6 decodeAction (countIn a) (numbersIn 6 a) ∙ ap (λ (q : Counts). q .actions) (sym counts)
+    held-before = records-length actionNumbers decodeAction (countIn a) (numbersIn actionNumbers a) ∙ ap (λ (q : Counts). q .actions) (sym counts)
 
     pub passed-refused : isFine (o .reply .verdict) ≡ false → r ≡ numbered (o .reply) → Passed s i d a c b r d a c
     passed-refused unfit er =
@@ -113,14 +113,14 @@ module _ (s : List ℕ) (i : ℕ) (d a c b : List ℕ) (r : Reply) where
         (ap (λ (l : Lists). record { lists = l; status = b }) lent-lists) er
 
     pub passed-accepted : (d′ a′ c′ : List ℕ) → isFine (o .reply .verdict) ≡ true → n .actions + o .counts .actions ≤ maxActions → r ≡ numbered (o .reply)
-        → Packed 3 0 (o .counts .discards) x′ d d′ → Packed 6 (n .actions) (o .counts .actions) y′ a a′ → Packed 3 0 (o .counts .clears) z′ c c′ → Passed s i d a c b r d′ a′ c′
+        → Packed surfaceNumbers 0 (o .counts .discards) x′ d d′ → Packed actionNumbers (n .actions) (o .counts .actions) y′ a a′ → Packed surfaceNumbers 0 (o .counts .clears) z′ c c′ → Passed s i d a c b r d′ a′ c′
     passed-accepted d′ a′ c′ fit few er pd pa pc =
         let step : checkPass (session s) (session s .pass i) lent ≡ record { reply = judged .reply; lists = behind (actionsIn a) (judged .lists) } = behind-accepted (actionsIn a) (session s) (session s .pass i) (held (unlisted n) x y z) (surfacesIn c) (fine-as true fit) (omega (arith, few, held-before, added s i n o x x′ y y′ z z′ check)) in
         let now : stateIn d′ a′ c′ b .lists ≡ behind (actionsIn a) (held (o .counts) x′ y′ z′) = λ q. record {
-          discards = packed-whole 3 decodeSurface (o .counts .discards) x′ d d′ pd q;
-          actions = packed-behind 6 decodeAction (n .actions) (o .counts .actions) y′ a a′ pa (ap (λ (m : Counts). m .actions) counts) q;
-          clears = packed-whole 3 decodeSurface (o .counts .clears) z′ c c′ pc q;
+          discards = packed-whole surfaceNumbers decodeSurface (o .counts .discards) x′ d d′ pd q;
+          actions = packed-behind actionNumbers decodeAction (n .actions) (o .counts .actions) y′ a a′ pa (ap (λ (m : Counts). m .actions) counts) q;
+          clears = packed-whole surfaceNumbers decodeSurface (o .counts .clears) z′ c c′ pc q;
         } in
-        let rests : RestStays 3 d d′ × (RestStays 6 a a′ × RestStays 3 c c′) = (packed-rest 3 0 (o .counts .discards) x′ d d′ pd, (packed-rest 6 (n .actions) (o .counts .actions) y′ a a′ pa, packed-rest 3 0 (o .counts .clears) z′ c c′ pc)) in
+        let rests : RestStays surfaceNumbers d d′ × (RestStays actionNumbers a a′ × RestStays surfaceNumbers c c′) = (packed-rest 3 0 (o .counts .discards) x′ d d′ pd, (packed-rest 6 (n .actions) (o .counts .actions) y′ a a′ pa, packed-rest 3 0 (o .counts .clears) z′ c c′ pc)) in
         same-step answered _ _ (stepped _ step) r (stateIn d′ a′ c′ b)
         (er ∙ ap numbered (check .reply), (ap (λ (l : Lists). record { lists = l; status = b }) (now ∙ ap (behind (actionsIn a)) (check .lists)), (rests, λ g. absurd (g (ap (λ (q : Reply). q .number) er ∙ eqb-true (o .reply .verdict .number) 0 fit)))))

@@ -5,12 +5,13 @@ use mathlib.Core.Bool.{cond}
 use mathlib.Core.Path.{_≡_}
 use lib.Dec.{eqb}
 use lib.ListN.{drop}
+use Rattle.definition.specs.Sizes.{listBytes}
 use Rattle.definition.specs.Session.{session}
 use Rattle.definition.specs.Readable.{sessionRefusal}
 use Rattle.definition.specs.Verdict.{nowhere, refusedAt}
 use Rattle.definition.specs.Pass.{refusal}
 use Rattle.definition.specs.Calls.{State, Call, pass, submit, Answer, checked, submitted, Step, call}
-use Rattle.lent.specs.Packed.{listBytes, countIn}
+use Rattle.lent.specs.Packed.{countIn}
 use Rattle.lent.specs.State.{stateIn, short}
 
 -- Refused as n: everything stays as found.

@@ -4,6 +4,7 @@ use mathlib.Core.Bool.{cond}
 use mathlib.Core.List.{List}
 use mathlib.Core.Path.{_≡_}
 use mathlib.Core.Logic.{_≢_}
+use Rattle.definition.specs.Sizes.{surfaceNumbers, actionNumbers}
 use Rattle.definition.specs.Session.{session}
 use Rattle.definition.specs.Verdict.{nowhere, refusedAt}
 use Rattle.definition.specs.Pass.{refusal}
@@ -45,4 +46,4 @@ answered (submitted n status) = refusedReply n
 abbrev pub Passed : List ℕ → ℕ → List ℕ → List ℕ → List ℕ → List ℕ → Reply → List ℕ → List ℕ → List ℕ → Type 0
 Passed s i d a c b r d′ a′ c′ =
     Stepped answered (call (session s) (pass i) (stateIn d a c b)) r (stateIn d′ a′ c′ b)
-    ((RestStays 3 d d′ × (RestStays 6 a a′ × RestStays 3 c c′)) × (r .number ≢ 0 → (d′ ≡ d) × ((a′ ≡ a) × (c′ ≡ c))))
+    ((RestStays surfaceNumbers d d′ × (RestStays actionNumbers a a′ × RestStays surfaceNumbers c c′)) × (r .number ≢ 0 → (d′ ≡ d) × ((a′ ≡ a) × (c′ ≡ c))))

@@ -5,11 +5,11 @@ use mathlib.Core.Bool.{cond}
 use mathlib.Core.List.{List}
 use lib.Dec.{ltb}
 use lib.ListN.{length, drop}
-use Rattle.definition.specs.Sizes.{maxPasses}
+use Rattle.definition.specs.Sizes.{maxPasses, rowBytes}
 use Rattle.definition.specs.Session.{session}
 use Rattle.definition.specs.Readable.{sessionRefusal}
 use Rattle.definition.specs.Program.{deskcheck}
-use Rattle.rows.specs.Rows.{rowBytes, rowsIn}
+use Rattle.rows.specs.Rows.{rowsIn}
 
 -- 6 for rows that are too short for every session, first of all; then the session's refusal.
 abbrev pub wholeNumber : List ℕ → List ℕ → ℕ

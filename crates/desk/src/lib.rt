@@ -3,6 +3,14 @@
 // In EntryPoints of specs/ and proofs/: demand 3 of calls of deskcheck_pass and deskcheck_submit, one after the other from fresh buffers.
 pub mod reply;
 
+use definition::sizes::ACTION_NUMBERS;
+use definition::sizes::ACTIONS_NUMBERS;
+use definition::sizes::ADDED_NUMBERS;
+use definition::sizes::CLEARS_NUMBERS;
+use definition::sizes::DISCARDS_NUMBERS;
+use definition::sizes::MAX_ACTIONS;
+use definition::sizes::ROWS_BYTES;
+use definition::sizes::SURFACE_NUMBERS;
 use definition::verdicts::is_fine;
 use lent::packed::unpack;
 use lent::state::is_short;
@@ -14,8 +22,6 @@ use render::check_pass;
 use reply::Reply;
 use reply::numbered;
 use reply::refused_reply;
-use room::course::MAX_ACTIONS;
-use rows::ROWS_BYTES;
 use rows::session_rows;
 use session::header::pass_count;
 use submission::submit;
@@ -26,12 +32,13 @@ ghost use mathlib.Core.Bool.{true, false};
 ghost use mathlib.Core.List.{List};
 ghost use Prim.Native.Nat.{ℕ, _≤_, _<_};
 ghost use lib.ListN.{length, drop};
+ghost use Rattle.definition.specs.Sizes.{surfaceNumbers, actionNumbers, discardsBytes, actionsBytes, clearsBytes};
 ghost use Rattle.definition.specs.Readable.{sessionRefusal};
 ghost use Rattle.definition.specs.Session as Se;
 ghost use Rattle.definition.specs.Calls.{pass, submit, call};
 ghost use Rattle.memory_init.specs.Lent.{Within};
 ghost use Rattle.lent.specs.Right.{countsIn};
-ghost use Rattle.lent.specs.State.{discardBytes, actionBytes, clearBytes, stateIn, short};
+ghost use Rattle.lent.specs.State.{stateIn, short};
 ghost use Rattle.lent.specs.Judged.{rightIn};
 ghost use Rattle.desk.specs.Entry.{numberIn, entry, RestStays};
 ghost use Rattle.desk.specs.Reply.{answered, Passed};
@@ -63,11 +70,11 @@ fn submit_lent(
     if !lent.right {
         return 6;
     }
-    let mut d: [u32; 192] = [0; 192];
-    let mut a: [u32; 3072] = [0; 3072];
+    let mut d: [u32; DISCARDS_NUMBERS] = [0; DISCARDS_NUMBERS];
+    let mut a: [u32; ACTIONS_NUMBERS] = [0; ACTIONS_NUMBERS];
     let n = lent.counts;
-    unpack(discards, 3, n.discards, &mut d);
-    unpack(actions, 6, n.actions, &mut a);
+    unpack(discards, SURFACE_NUMBERS, n.discards, &mut d);
+    unpack(actions, ACTION_NUMBERS, n.actions, &mut a);
     submit(session, &d, &a, n, status);
     put_u32(discards, 0, 0);
     put_u32(actions, 0, 0);
@@ -110,13 +117,13 @@ fn check_lent(
     n: Counts,
 ) -> Reply
     requires { ⌜ (n ≡ countsIn (now discards) (now actions) (now clears)) × (Within n × (i < Se.session (now session) .passCount)) ⌝ }
-    requires { ⌜ (discardBytes ≤ length (now discards)) × ((actionBytes ≤ length (now actions)) × (clearBytes ≤ length (now clears))) ⌝ }
+    requires { ⌜ (discardsBytes ≤ length (now discards)) × ((actionsBytes ≤ length (now actions)) × (clearsBytes ≤ length (now clears))) ⌝ }
     ensures { λ r. ⌜ ((b : List ℕ) → rightIn (now (session .entry)) (now (discards .entry)) (now (actions .entry)) (now (clears .entry)) b ≡ true → Passed (now (session .entry)) i (now (discards .entry)) (now (actions .entry)) (now (clears .entry)) b r (now (discards .exit)) (now (actions .exit)) (now (clears .exit))) ⌝ }
 {
-    let mut d: [u32; 192] = [0; 192];
-    let mut a: [u32; 540] = [0; 540];
-    let mut c: [u32; 240] = [0; 240];
-    unpack(discards, 3, n.discards, &mut d);
+    let mut d: [u32; DISCARDS_NUMBERS] = [0; DISCARDS_NUMBERS];
+    let mut a: [u32; ADDED_NUMBERS] = [0; ADDED_NUMBERS];
+    let mut c: [u32; CLEARS_NUMBERS] = [0; CLEARS_NUMBERS];
+    unpack(discards, SURFACE_NUMBERS, n.discards, &mut d);
     let unlisted = Counts {
         discards: n.discards,
         actions: 0,
@@ -170,7 +177,7 @@ pub extern "C" fn deskcheck_pass(
 ) -> Reply
     ensures { λ r. ⌜ r ≡ answered (entry (now (session .entry)) (pass i) (now (discards .entry)) (now (actions .entry)) (now (clears .entry)) (now (status .entry)) .answer) ⌝ }
     ensures { λ _. ⌜ stateIn (now (discards .exit)) (now (actions .exit)) (now (clears .exit)) (now (status .entry)) ≡ entry (now (session .entry)) (pass i) (now (discards .entry)) (now (actions .entry)) (now (clears .entry)) (now (status .entry)) .state ⌝ }
-    ensures { λ _. ⌜ (RestStays 3 (now (discards .entry)) (now (discards .exit))) × ((RestStays 6 (now (actions .entry)) (now (actions .exit))) × (RestStays 3 (now (clears .entry)) (now (clears .exit)))) ⌝ }
+    ensures { λ _. ⌜ (RestStays surfaceNumbers (now (discards .entry)) (now (discards .exit))) × ((RestStays actionNumbers (now (actions .entry)) (now (actions .exit))) × (RestStays surfaceNumbers (now (clears .entry)) (now (clears .exit)))) ⌝ }
     ensures { λ r. ⌜ (r .number ≢ 0 → (now (discards .exit) ≡ now (discards .entry)) × ((now (actions .exit) ≡ now (actions .entry)) × (now (clears .exit) ≡ now (clears .entry)))) ⌝ }
 {
     if is_short(discards, actions, clears, status) {

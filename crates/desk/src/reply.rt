@@ -1,5 +1,6 @@
 // The reply to one pass as C callers see it: numbers, and attachments in seventeen records.
 use definition::Attachment;
+use definition::sizes::MAX_ATTACHMENTS;
 use definition::verdicts::NOWHERE;
 use render::PassReply;
 use render::replies::no_attachments;
@@ -23,7 +24,7 @@ pub struct Reply {
     pub divergent: u32,
     pub clears: u32,
     pub count: u32,
-    pub attachments: [Attachment; 17],
+    pub attachments: [Attachment; MAX_ATTACHMENTS],
 }
 
 // 1 for true.

@@ -1,6 +1,7 @@
 // `deskcheck`: reads a session from standard input and prints its lines, or its refusal, to standard output.
 // Every input has an answer: what is longer than any session is counted to its end. Where reading or writing fails, a line on
 // standard error says so.
+use definition::sizes::LONGEST_SESSION;
 use libc::STDIN_FILENO;
 use libc::STDOUT_FILENO;
 use print::PRINTED_BYTES;
@@ -11,9 +12,6 @@ ghost use lib.ListN.{length};
 ghost use Rattle.definition.specs.Sizes.{maxPasses};
 ghost use Rattle.print.specs.Text.{lineBytes};
 ghost use Rattle.print.specs.Front.{FrontLength};
-
-// The length of the longest session.
-const MOST_BYTES: usize = 60680;
 
 // No length field is so large: a file of so many bytes is refused as a longer one is.
 const LENGTH_BOUND: u64 = 0x1_0000_0000;
@@ -103,7 +101,7 @@ fn answer(out: &mut [u8]) -> Input
             failed: true,
         };
     }
-    if held <= MOST_BYTES {
+    if held <= LONGEST_SESSION {
         return Input {
             bytes: print_session(&file[..held], out),
             failed: false,

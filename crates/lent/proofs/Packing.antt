@@ -8,32 +8,32 @@ use lib.Dec.{ltb}
 use borrow.Author.Tests.{ltb-false}
 use lib.ListN.{length, take, drop}
 use lib.Seq.{take-take}
-use Rattle.definition.specs.Sizes.{maxSurfaces}
+use Rattle.definition.specs.Sizes.{maxSurfaces, surfaceNumbers, actionNumbers, countBytes, listBytes, discardsBytes, actionsBytes, clearsBytes}
 use Rattle.definition.specs.Session.{Session, session}
 use Rattle.laws.proofs.Tests.{clash, or-off-left, or-off-right}
 use Rattle.laws.specs.Records.{records}
 use Rattle.laws.proofs.Records.{records-same, records-append}
 use Rattle.memory_init.specs.declared.Counts.{Counts}
 use Rattle.lent.specs.Numbers.{numbersAt}
-use Rattle.lent.specs.Packed.{listBytes, countIn, numbersIn}
+use Rattle.lent.specs.Packed.{countIn, numbersIn}
 use Rattle.lent.proofs.Numbers.{length-numbers, whole-numbers}
 use Rattle.lent.specs.Right.{countsFit, countsIn, right, Long}
 use Rattle.lent.proofs.Turns.{right-counts, counts-in}
-use Rattle.lent.specs.State.{discardBytes, actionBytes, clearBytes, short}
+use Rattle.lent.specs.State.{short}
 use Rattle.lent.specs.Judged.{Judged, Packed}
 
 -- Buffers that are not short are long enough.
 pub not-short : (d a c status : List ℕ) → short d a c status ≡ false → Long d a c status
 unfolding short
 not-short d a c status h =
-    let first : Bool = ltb (length d) discardBytes || ltb (length a) actionBytes in
-    let three = or-off-left (first || ltb (length c) clearBytes) (ltb (length status) maxSurfaces) h in
-    let two = or-off-left first (ltb (length c) clearBytes) three in
+    let first : Bool = ltb (length d) discardsBytes || ltb (length a) actionsBytes in
+    let three = or-off-left (first || ltb (length c) clearsBytes) (ltb (length status) maxSurfaces) h in
+    let two = or-off-left first (ltb (length c) clearsBytes) three in
     record {
-      discards = ltb-false (length d) discardBytes (or-off-left (ltb (length d) discardBytes) (ltb (length a) actionBytes) two);
-      actions = ltb-false (length a) actionBytes (or-off-right (ltb (length d) discardBytes) (ltb (length a) actionBytes) two);
-      clears = ltb-false (length c) clearBytes (or-off-right first (ltb (length c) clearBytes) three);
-      status = ltb-false (length status) maxSurfaces (or-off-right (first || ltb (length c) clearBytes) (ltb (length status) maxSurfaces) h);
+      discards = ltb-false (length d) discardsBytes (or-off-left (ltb (length d) discardsBytes) (ltb (length a) actionsBytes) two);
+      actions = ltb-false (length a) actionsBytes (or-off-right (ltb (length d) discardsBytes) (ltb (length a) actionsBytes) two);
+      clears = ltb-false (length c) clearsBytes (or-off-right first (ltb (length c) clearsBytes) three);
+      status = ltb-false (length status) maxSurfaces (or-off-right (first || ltb (length c) clearsBytes) (ltb (length status) maxSurfaces) h);
     }
 
 -- ── what is decided
@@ -46,37 +46,37 @@ right-fits S n d a c status h = go (countsFit n) refl
     go true e = e
     go false e = clash h (sym (right-counts S n d a c status e))
 
-pub judged : (s d a c status : List ℕ) (n : Counts) (b : Bool) → n ≡ countsIn d a c → b ≡ right (session s) n (numbersIn 3 d) (numbersIn 6 a) (numbersIn 3 c) status
+pub judged : (s d a c status : List ℕ) (n : Counts) (b : Bool) → n ≡ countsIn d a c → b ≡ right (session s) n (numbersIn surfaceNumbers d) (numbersIn actionNumbers a) (numbersIn surfaceNumbers c) status
     → Judged s d a c status (record { right = b; counts = n })
 judged s d a c status n b counts e = record {
-  decided = e ∙ ap (λ (m : Counts). right (session s) m (numbersIn 3 d) (numbersIn 6 a) (numbersIn 3 c) status) counts;
+  decided = e ∙ ap (λ (m : Counts). right (session s) m (numbersIn surfaceNumbers d) (numbersIn actionNumbers a) (numbersIn surfaceNumbers c) status) counts;
   counts = counts;
-  within = λ h. counts-in n (right-fits (session s) n (numbersIn 3 d) (numbersIn 6 a) (numbersIn 3 c) status (sym e ∙ h));
+  within = λ h. counts-in n (right-fits (session s) n (numbersIn surfaceNumbers d) (numbersIn actionNumbers a) (numbersIn surfaceNumbers c) status (sym e ∙ h));
 }
 
 -- ── numbers of a list of records
 
 module _ {A : Type 0} (k : ℕ) (decode : List ℕ → A) where
   -- What is unpacked holds the records of the bytes.
-  pub unpacked-records : (n : ℕ) (x b : List ℕ) → take (k * n) x ≡ numbersAt b 4 (k * n) → records k decode n x ≡ records k decode n (numbersAt b 4 (k * n))
-  unpacked-records n x b e = records-same k decode n (numbersAt b 4 (k * n)) x (e ∙ sym (whole-numbers b 4 (k * n)))
+  pub unpacked-records : (n : ℕ) (x b : List ℕ) → take (k * n) x ≡ numbersAt b countBytes (k * n) → records k decode n x ≡ records k decode n (numbersAt b countBytes (k * n))
+  unpacked-records n x b e = records-same k decode n (numbersAt b countBytes (k * n)) x (e ∙ sym (whole-numbers b 4 (k * n)))
 
   -- All of them, where n is their count.
-  pub unpacked-all : (n : ℕ) (x b : List ℕ) → n ≡ countIn b → take (k * n) x ≡ numbersAt b 4 (k * n) → records k decode n x ≡ records k decode (countIn b) (numbersIn k b)
-  unpacked-all n x b e h = unpacked-records n x b h ∙ ap (λ (q : ℕ). records k decode q (numbersAt b 4 (k * q))) e
+  pub unpacked-all : (n : ℕ) (x b : List ℕ) → n ≡ countIn b → take (k * n) x ≡ numbersAt b countBytes (k * n) → records k decode n x ≡ records k decode (countIn b) (numbersIn k b)
+  unpacked-all n x b e h = unpacked-records n x b h ∙ ap (λ (q : ℕ). records k decode q (numbersAt b countBytes (k * q))) e
 
   module _ (held n : ℕ) (xs b b′ : List ℕ) (p : Packed k held n xs b b′) where
     -- What is packed stands behind the first records of the bytes.
-    pub packed-records : records k decode (countIn b′) (numbersIn k b′) ≡ records k decode held (numbersAt b 4 (k * held)) ++ records k decode n xs
+    pub packed-records : records k decode (countIn b′) (numbersIn k b′) ≡ records k decode held (numbersAt b countBytes (k * held)) ++ records k decode n xs
     packed-records =
-        ap (λ (q : ℕ). records k decode q (numbersAt b′ 4 (k * q))) (p .count)
+        ap (λ (q : ℕ). records k decode q (numbersAt b′ countBytes (k * q))) (p .count)
         ∙ ap (records k decode (held + n)) (p .numbers)
-        ∙ records-append k decode held n (numbersAt b 4 (k * held)) (take (k * n) xs) (length-numbers b 4 (k * held))
-        ∙ ap (λ l. records k decode held (numbersAt b 4 (k * held)) ++ l) (records-same k decode n xs (take (k * n) xs) (take-take (k * n) (k * n) xs (le-refl _)))
+        ∙ records-append k decode held n (numbersAt b countBytes (k * held)) (take (k * n) xs) (length-numbers b 4 (k * held))
+        ∙ ap (λ l. records k decode held (numbersAt b countBytes (k * held)) ++ l) (records-same k decode n xs (take (k * n) xs) (take-take (k * n) (k * n) xs (le-refl _)))
 
     -- Behind all of them.
     pub packed-behind : held ≡ countIn b → records k decode (countIn b′) (numbersIn k b′) ≡ records k decode (countIn b) (numbersIn k b) ++ records k decode n xs
-    packed-behind e = packed-records ∙ ap (λ (q : ℕ). records k decode q (numbersAt b 4 (k * q)) ++ records k decode n xs) e
+    packed-behind e = packed-records ∙ ap (λ (q : ℕ). records k decode q (numbersAt b countBytes (k * q)) ++ records k decode n xs) e
 
   -- Behind none.
   pub packed-whole : (n : ℕ) (xs b b′ : List ℕ) → Packed k 0 n xs b b′ → records k decode (countIn b′) (numbersIn k b′) ≡ records k decode n xs

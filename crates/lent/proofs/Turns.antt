@@ -7,8 +7,8 @@ use mathlib.Core.Bool.{Bool, true, false, _&&_, and-true, and-assoc}
 use mathlib.Core.List.{List, [], _∷_, _++_}
 use lib.Dec.{leb}
 use lib.ListN.{length, getD, drop}
+use Rattle.definition.specs.Sizes.{maxDiscards, maxActions, maxClears, surfaceNumbers, actionNumbers, countBytes}
 use Rattle.definition.specs.Session.{Session, surfaceCount}
-use Rattle.definition.specs.Sizes.{maxDiscards, maxActions, maxClears}
 use Rattle.definition.specs.Calls.{surfaceRight, rangeRight, surfacesRight, actionsRight, bytesRight, countsRight, lentRight}
 use Rattle.definition.specs.declared.Surface.{Surface}
 use Rattle.definition.specs.declared.Action.{Action}
@@ -46,21 +46,21 @@ module _ (S : Session) where
     surfaces-none = refl
 
     pub surfaces-turn : (i : ℕ) → surfacesRight S (surfaces (i + 1) l) ≡ (surfacesRight S (surfaces i l) && surfaceRight S (surfaceIn i l))
-    surfaces-turn = records-turn 3 decodeSurface (surfacesRight S) (surfaceRight S) surfaces-more l
+    surfaces-turn = records-turn surfaceNumbers decodeSurface (surfacesRight S) (surfaceRight S) surfaces-more l
 
     -- Each record of a list that is right.
     pub surfaces-each : (n : ℕ) → surfacesRight S (surfaces n l) ≡ true → (i : ℕ) → i < n → surfaceRight S (surfaceIn i l) ≡ true
-    surfaces-each = records-each 3 decodeSurface (surfacesRight S) (surfaceRight S) surfaces-more l
+    surfaces-each = records-each surfaceNumbers decodeSurface (surfacesRight S) (surfaceRight S) surfaces-more l
 
     pub actions-none : actionsRight S (actions 0 l) ≡ true
     unfolding records
     actions-none = refl
 
     pub actions-turn : (i : ℕ) → actionsRight S (actions (i + 1) l) ≡ (actionsRight S (actions i l) && rangeRight S (actionIn i l .range))
-    actions-turn = records-turn 6 decodeAction (actionsRight S) (λ x. rangeRight S (x .range)) actions-more l
+    actions-turn = records-turn actionNumbers decodeAction (actionsRight S) (λ x. rangeRight S (x .range)) actions-more l
 
     pub actions-each : (n : ℕ) → actionsRight S (actions n l) ≡ true → (i : ℕ) → i < n → rangeRight S (actionIn i l .range) ≡ true
-    actions-each = records-each 6 decodeAction (actionsRight S) (λ x. rangeRight S (x .range)) actions-more l
+    actions-each = records-each actionNumbers decodeAction (actionsRight S) (λ x. rangeRight S (x .range)) actions-more l
 
 -- Of the bytes, what is tested so far and what is left.
 pub bytes-start : (bs : List ℕ) (n : ℕ) → bytesRight n bs ≡ (true && bytesRight (n - 0) (drop 0 bs))
@@ -80,9 +80,9 @@ bytes-end bs n i ok h e =
 pub counts-held : (n : Counts) (d a c : List ℕ) → countsRight (held n d a c) ≡ countsFit n
 unfolding countsRight
 counts-held n d a c =
-    let e = records-length 3 decodeSurface (n .discards) d in
-    let f = records-length 6 decodeAction (n .actions) a in
-    let g = records-length 3 decodeSurface (n .clears) c in
+    let e = records-length surfaceNumbers decodeSurface (n .discards) d in
+    let f = records-length actionNumbers decodeAction (n .actions) a in
+    let g = records-length surfaceNumbers decodeSurface (n .clears) c in
     λ q. leb (e q) maxDiscards && leb (f q) maxActions && leb (g q) maxClears
 
 module _ (S : Session) (n : Counts) (d a c status : List ℕ) where
@@ -104,9 +104,9 @@ module _ (S : Session) (n : Counts) (d a c status : List ℕ) where
 
 -- Numbers as far as the counts reach, where these are the lists' own.
 pub right-packed : (S : Session) (n : Counts) (d a c status : List ℕ) → n ≡ countsIn d a c
-    → right S n (numbersAt d 4 (3 * n .discards)) (numbersAt a 4 (6 * n .actions)) (numbersAt c 4 (3 * n .clears)) status ≡ right S n (numbersIn 3 d) (numbersIn 6 a) (numbersIn 3 c) status
+    → right S n (numbersAt d countBytes (surfaceNumbers * n .discards)) (numbersAt a countBytes (actionNumbers * n .actions)) (numbersAt c countBytes (surfaceNumbers * n .clears)) status ≡ right S n (numbersIn surfaceNumbers d) (numbersIn actionNumbers a) (numbersIn surfaceNumbers c) status
 right-packed S n d a c status e =
-    λ q. right S n (numbersAt d 4 (3 * e q .discards)) (numbersAt a 4 (6 * e q .actions)) (numbersAt c 4 (3 * e q .clears)) status
+    λ q. right S n (numbersAt d countBytes (surfaceNumbers * e q .discards)) (numbersAt a countBytes (actionNumbers * e q .actions)) (numbersAt c countBytes (surfaceNumbers * e q .clears)) status
 
 -- Counts in range, as facts on numbers.
 pub counts-in : (n : Counts) → countsFit n ≡ true → Within n

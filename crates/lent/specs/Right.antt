@@ -4,12 +4,12 @@ use mathlib.Core.Bool.{Bool, _&&_}
 use mathlib.Core.List.{List}
 use lib.Dec.{leb}
 use lib.ListN.{length}
-use Rattle.definition.specs.Sizes.{maxSurfaces, maxDiscards, maxActions, maxClears}
+use Rattle.definition.specs.Sizes.{maxSurfaces, maxDiscards, maxActions, maxClears, discardsBytes, actionsBytes, clearsBytes}
 use Rattle.definition.specs.Session.{Session}
 use Rattle.definition.specs.Calls.{State, lentRight}
 use Rattle.memory_init.specs.declared.Counts.{Counts}
 use Rattle.memory_init.specs.Lent.{held}
-use Rattle.lent.specs.Packed.{listBytes, countIn}
+use Rattle.lent.specs.Packed.{countIn}
 
 -- The counts are within the room.
 abbrev pub countsFit : Counts → Bool
@@ -29,7 +29,7 @@ right S n d a c status = lentRight S (state n d a c status)
 
 -- The lent bytes have the lengths that document 01 gives them, at least.
 pub record Long (d a c b : List ℕ) : Type 0 where
-  pub discards : listBytes 3 maxDiscards ≤ length d
-  pub actions : listBytes 6 maxActions ≤ length a
-  pub clears : listBytes 3 maxClears ≤ length c
+  pub discards : discardsBytes ≤ length d
+  pub actions : actionsBytes ≤ length a
+  pub clears : clearsBytes ≤ length c
   pub status : maxSurfaces ≤ length b

@@ -2,6 +2,12 @@
 // Each test is the definition's, of the lists that the lent bytes stand for, and reads a record where it stands in them.
 use definition::Range;
 use definition::Surface;
+use definition::sizes::ACTION_BYTES;
+use definition::sizes::COUNT_BYTES;
+use definition::sizes::MAX_ACTIONS;
+use definition::sizes::MAX_CLEARS;
+use definition::sizes::MAX_DISCARDS;
+use definition::sizes::SURFACE_BYTES;
 use memory_init::Counts;
 use records::layers_of;
 use session::derived::array_layers;
@@ -14,12 +20,12 @@ ghost use mathlib.Core.Path.{_≡_};
 ghost use Prim.Native.Nat.{ℕ, _+_, _*_, _≤_, _<_};
 ghost use lib.Dec.{leb};
 ghost use lib.ListN.{length};
+ghost use Rattle.definition.specs.Sizes.{maxSurfaces, surfaceNumbers, actionNumbers, countBytes, listBytes};
 ghost use Rattle.definition.specs.Session.{session, surfaceCount};
-ghost use Rattle.definition.specs.Sizes.{maxSurfaces};
 ghost use Rattle.definition.specs.Calls.{surfaceRight, rangeRight, surfacesRight, actionsRight, bytesRight};
 ghost use Rattle.records.specs.Lent.{surfaces, actions, surfaceIn, actionIn};
 ghost use Rattle.lent.specs.Numbers.{numbersAt};
-ghost use Rattle.lent.specs.Packed.{listBytes, numbersIn};
+ghost use Rattle.lent.specs.Packed.{numbersIn};
 ghost use Rattle.lent.specs.Right.{countsFit, countsIn, right, Long};
 
 // The session has the surface.
@@ -52,10 +58,10 @@ pub fn range_right(s: &[u8], x: Range) -> bool
 
 // The surface at place i of a lent list, which lies inside.
 pub fn surface_in(b: &[u8], i: usize) -> Surface
-    requires { ⌜ listBytes 3 (i + 1) ≤ length (now b) ⌝ }
-    ensures { λ r. ⌜ ((n : ℕ) → i < n → r ≡ surfaceIn i (numbersAt (now (b .entry)) 4 (3 * n))) ⌝ }
+    requires { ⌜ listBytes surfaceNumbers (i + 1) ≤ length (now b) ⌝ }
+    ensures { λ r. ⌜ ((n : ℕ) → i < n → r ≡ surfaceIn i (numbersAt (now (b .entry)) countBytes (surfaceNumbers * n))) ⌝ }
 {
-    let at = 4 + 12 * i;
+    let at = COUNT_BYTES + SURFACE_BYTES * i;
     Surface {
         texture: u32_inside(b, at),
         mip: u32_inside(b, at + 4),
@@ -65,10 +71,10 @@ pub fn surface_in(b: &[u8], i: usize) -> Surface
 
 // The range of the action at place i of a lent list, which lies inside.
 pub fn range_in(b: &[u8], i: usize) -> Range
-    requires { ⌜ listBytes 6 (i + 1) ≤ length (now b) ⌝ }
-    ensures { λ r. ⌜ ((n : ℕ) → i < n → r ≡ actionIn i (numbersAt (now (b .entry)) 4 (6 * n)) .range) ⌝ }
+    requires { ⌜ listBytes actionNumbers (i + 1) ≤ length (now b) ⌝ }
+    ensures { λ r. ⌜ ((n : ℕ) → i < n → r ≡ actionIn i (numbersAt (now (b .entry)) countBytes (actionNumbers * n)) .range) ⌝ }
 {
-    let at = 4 + 24 * i;
+    let at = COUNT_BYTES + ACTION_BYTES * i;
     Range {
         texture: u32_inside(b, at),
         mip: u32_inside(b, at + 4),
@@ -80,8 +86,8 @@ pub fn range_in(b: &[u8], i: usize) -> Range
 
 // The first n surfaces of a lent list.
 pub fn surfaces_right(s: &[u8], b: &[u8], n: usize) -> bool
-    requires { ⌜ listBytes 3 n ≤ length (now b) ⌝ }
-    ensures { λ r. ⌜ r ≡ surfacesRight (session (now (s .entry))) (surfaces n (numbersAt (now (b .entry)) 4 (3 * n))) ⌝ }
+    requires { ⌜ listBytes surfaceNumbers n ≤ length (now b) ⌝ }
+    ensures { λ r. ⌜ r ≡ surfacesRight (session (now (s .entry))) (surfaces n (numbersAt (now (b .entry)) countBytes (surfaceNumbers * n))) ⌝ }
 {
     let mut ok = true;
     let mut i: usize = 0;
@@ -94,8 +100,8 @@ pub fn surfaces_right(s: &[u8], b: &[u8], n: usize) -> bool
 
 // The ranges of the first n actions of a lent list.
 pub fn actions_right(s: &[u8], b: &[u8], n: usize) -> bool
-    requires { ⌜ listBytes 6 n ≤ length (now b) ⌝ }
-    ensures { λ r. ⌜ r ≡ actionsRight (session (now (s .entry))) (actions n (numbersAt (now (b .entry)) 4 (6 * n))) ⌝ }
+    requires { ⌜ listBytes actionNumbers n ≤ length (now b) ⌝ }
+    ensures { λ r. ⌜ r ≡ actionsRight (session (now (s .entry))) (actions n (numbersAt (now (b .entry)) countBytes (actionNumbers * n))) ⌝ }
 {
     let mut ok = true;
     let mut i: usize = 0;
@@ -135,7 +141,7 @@ pub fn counts_of(discards: &[u8], actions: &[u8], clears: &[u8]) -> Counts
 pub fn counts_right(n: Counts) -> bool
     ensures { λ r. ⌜ r ≡ countsFit n ⌝ }
 {
-    (n.discards <= 64) & (n.actions <= 512) & (n.clears <= 80)
+    (n.discards <= MAX_DISCARDS) & (n.actions <= MAX_ACTIONS) & (n.clears <= MAX_CLEARS)
 }
 
 // How many surfaces a session has that is not refused.
@@ -157,7 +163,7 @@ pub fn lent_right(
 ) -> bool
     requires { ⌜ n ≡ countsIn (now discards) (now actions) (now clears) ⌝ }
     requires { ⌜ Long (now discards) (now actions) (now clears) (now status) × (surfaceCount (session (now s)) ≤ maxSurfaces) ⌝ }
-    ensures { λ r. ⌜ r ≡ right (session (now (s .entry))) n (numbersIn 3 (now (discards .entry))) (numbersIn 6 (now (actions .entry))) (numbersIn 3 (now (clears .entry))) (now (status .entry)) ⌝ }
+    ensures { λ r. ⌜ r ≡ right (session (now (s .entry))) n (numbersIn surfaceNumbers (now (discards .entry))) (numbersIn actionNumbers (now (actions .entry))) (numbersIn surfaceNumbers (now (clears .entry))) (now (status .entry)) ⌝ }
 {
     if !counts_right(n) {
         return false;

@@ -2,26 +2,21 @@
 use crate::packed::pack;
 use crate::right::counts_of;
 use crate::right::lent_right;
+use definition::sizes::ACTION_NUMBERS;
+use definition::sizes::ACTIONS_BYTES;
+use definition::sizes::CLEARS_BYTES;
+use definition::sizes::DISCARDS_BYTES;
+use definition::sizes::MAX_SURFACES;
+use definition::sizes::SURFACE_NUMBERS;
 use memory_init::Counts;
 ghost use mathlib.Core.Path.{_≡_};
 ghost use mathlib.Core.Bool.{false};
 ghost use Prim.Native.Nat.{_+_, _*_, _≤_};
 ghost use lib.ListN.{length};
+ghost use Rattle.definition.specs.Sizes.{maxDiscards, maxActions, maxClears, surfaceNumbers, actionNumbers, discardsBytes, actionsBytes, clearsBytes};
 ghost use Rattle.definition.specs.Readable.{sessionRefusal};
-ghost use Rattle.lent.specs.State.{discardBytes, actionBytes, clearBytes, short};
+ghost use Rattle.lent.specs.State.{short};
 ghost use Rattle.lent.specs.Judged.{Judged, Packed};
-
-// Bytes of the lent discards: a count and 64 records of three numbers.
-pub const DISCARD_BYTES: usize = 772;
-
-// Bytes of the lent actions: a count and 512 records of six numbers.
-pub const ACTION_BYTES: usize = 12292;
-
-// Bytes of the lent clears: a count and 80 records of three numbers.
-pub const CLEAR_BYTES: usize = 964;
-
-// Bytes of the lent status: one for each surface that a session may have.
-pub const STATUS_BYTES: usize = 4096;
 
 // How many entries each list has, and whether all that is lent is in range.
 pub struct LentCounts {
@@ -33,10 +28,10 @@ pub struct LentCounts {
 pub fn is_short(discards: &[u8], actions: &[u8], clears: &[u8], status: &[u8]) -> bool
     ensures { λ r. ⌜ r ≡ short (now (discards .entry)) (now (actions .entry)) (now (clears .entry)) (now (status .entry)) ⌝ }
 {
-    (discards.len() < DISCARD_BYTES)
-        | (actions.len() < ACTION_BYTES)
-        | (clears.len() < CLEAR_BYTES)
-        | (status.len() < STATUS_BYTES)
+    (discards.len() < DISCARDS_BYTES)
+        | (actions.len() < ACTIONS_BYTES)
+        | (clears.len() < CLEARS_BYTES)
+        | (status.len() < MAX_SURFACES)
 }
 
 // Tests the three lists, the records where they stand, and the status bytes.
@@ -68,14 +63,14 @@ pub fn pack_lent(
     a: &[u32],
     c: &[u32],
 )
-    requires { ⌜ (n .discards ≤ 64) × ((held + n .actions ≤ 512) × (n .clears ≤ 80)) ⌝ }
-    requires { ⌜ (discardBytes ≤ length (now discards)) × ((actionBytes ≤ length (now actions)) × (clearBytes ≤ length (now clears))) ⌝ }
-    requires { ⌜ (3 * n .discards ≤ length (now d)) × ((6 * n .actions ≤ length (now a)) × (3 * n .clears ≤ length (now c))) ⌝ }
-    ensures { λ _. ⌜ Packed 3 0 (n .discards) (now (d .entry)) (now (discards .entry)) (now (discards .exit)) ⌝ }
-    ensures { λ _. ⌜ Packed 6 held (n .actions) (now (a .entry)) (now (actions .entry)) (now (actions .exit)) ⌝ }
-    ensures { λ _. ⌜ Packed 3 0 (n .clears) (now (c .entry)) (now (clears .entry)) (now (clears .exit)) ⌝ }
+    requires { ⌜ (n .discards ≤ maxDiscards) × ((held + n .actions ≤ maxActions) × (n .clears ≤ maxClears)) ⌝ }
+    requires { ⌜ (discardsBytes ≤ length (now discards)) × ((actionsBytes ≤ length (now actions)) × (clearsBytes ≤ length (now clears))) ⌝ }
+    requires { ⌜ (surfaceNumbers * n .discards ≤ length (now d)) × ((actionNumbers * n .actions ≤ length (now a)) × (surfaceNumbers * n .clears ≤ length (now c))) ⌝ }
+    ensures { λ _. ⌜ Packed surfaceNumbers 0 (n .discards) (now (d .entry)) (now (discards .entry)) (now (discards .exit)) ⌝ }
+    ensures { λ _. ⌜ Packed actionNumbers held (n .actions) (now (a .entry)) (now (actions .entry)) (now (actions .exit)) ⌝ }
+    ensures { λ _. ⌜ Packed surfaceNumbers 0 (n .clears) (now (c .entry)) (now (clears .entry)) (now (clears .exit)) ⌝ }
 {
-    pack(discards, 3, 0, n.discards, d);
-    pack(actions, 6, held, n.actions, a);
-    pack(clears, 3, 0, n.clears, c);
+    pack(discards, SURFACE_NUMBERS, 0, n.discards, d);
+    pack(actions, ACTION_NUMBERS, held, n.actions, a);
+    pack(clears, SURFACE_NUMBERS, 0, n.clears, c);
 }

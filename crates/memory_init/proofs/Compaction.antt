@@ -5,6 +5,7 @@ use mathlib.Core.Path.{_≡_, refl, _∙_}
 use mathlib.Core.Bool.{Bool, true, false, not}
 use mathlib.Core.List.{List}
 use lib.ListN.{length, set, getD, length-set}
+use Rattle.definition.specs.Sizes.{surfaceNumbers}
 use Rattle.definition.specs.Surfaces.{hits}
 use Rattle.definition.specs.declared.Surface.{Surface}
 use Rattle.laws.proofs.Records.{Written}
@@ -25,7 +26,7 @@ pub record State (a : TextureInitRange) (n : ℕ) (l : List Surface) : Type 0 wh
   pub k : ℕ
   pub i : ℕ
   pub long : length l′ ≡ length l
-  pub going : Compacting 3 decodeSurface (outside a) n (numbers l) (numbers l′) k i
+  pub going : Compacting surfaceNumbers decodeSurface (outside a) n (numbers l) (numbers l′) k i
 
 module _ (a : TextureInitRange) (n : ℕ) (l : List Surface) (enough : n ≤ length l) (t : State a n l) (more : t .i < n) where
   -- The record that the turn reads.
@@ -35,7 +36,7 @@ module _ (a : TextureInitRange) (n : ℕ) (l : List Surface) (enough : n ≤ len
   pub reads : s ≡ surfaceIn (t .i) (numbers (t .l′))
   reads = numbers-at (t .l′) (t .i) (omega (arith, t .long, enough))
 
-  pub writes : Written 3 decodeSurface (t .k) s (numbers (t .l′)) (numbers (set (t .l′) (t .k) s))
+  pub writes : Written surfaceNumbers decodeSurface (t .k) s (numbers (t .l′)) (numbers (set (t .l′) (t .k) s))
   writes = slice-written (t .l′) (t .k) s (omega (arith, t .long, enough, t .going .behind))
 
   -- The state after the turn: the record stays, or it leaves.
@@ -59,7 +60,7 @@ module _ (a : TextureInitRange) (n : ℕ) (l : List Surface) (enough : n ≤ len
 
 module _ (a : TextureInitRange) (n : ℕ) (l : List Surface) where
   -- All are read: what stays is retained.
-  pub retained : (l′ : List Surface) (k i : ℕ) → length l′ ≡ length l → n ≤ length l → Compacting 3 decodeSurface (outside a) n (numbers l) (numbers l′) k i → n ≤ i → Kept n (rangeOf a) l l′ k
+  pub retained : (l′ : List Surface) (k i : ℕ) → length l′ ≡ length l → n ≤ length l → Compacting surfaceNumbers decodeSurface (outside a) n (numbers l) (numbers l′) k i → n ≤ i → Kept n (rangeOf a) l l′ k
   retained l′ k i long enough g over =
       record { retained = λ _. compact-done g over; records = λ _. retained-records n k (rangeOf a) l l′ long enough (compact-done g over); refused = λ past. absurd (omega (arith, enough, past)) }
 

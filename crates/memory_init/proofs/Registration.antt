@@ -5,7 +5,7 @@ use mathlib.Core.Path.{_≡_, refl, sym, ap, subst, _∙_}
 use mathlib.Core.Bool.{Bool, true, false, not}
 use mathlib.Core.List.{List, [], _∷_, _++_, map}
 use lib.ListN.{length, length-append, length-map}
-use Rattle.definition.specs.Sizes.{maxDiscards}
+use Rattle.definition.specs.Sizes.{maxDiscards, surfaceNumbers, actionNumbers}
 use Rattle.definition.specs.Surfaces.{hits, firstOf, named}
 use Rattle.definition.specs.MemoryInit.{Lists, implicitAt, matching, registerInitAction, discarded}
 use Rattle.definition.specs.declared.Surface.{Surface}
@@ -18,44 +18,44 @@ use Rattle.records.specs.Lent.{decodeSurface, decodeAction, actionOf, surfaces}
 use Rattle.memory_init.specs.Lent.{held, Room, Leaves, Spared}
 
 abbrev Others : Range → ℕ → List ℕ → List ℕ → ℕ → Type 0
-Others r n d d′ kept = Retained 3 decodeSurface (λ s. not (hits r s)) n d d′ kept
+Others r n d d′ kept = Retained surfaceNumbers decodeSurface (λ s. not (hits r s)) n d d′ kept
 
 module _ (r : Range) (n : Counts) (d d′ a : List ℕ) (kept x : ℕ) where
-  pub implicit-leaves : (a′ c : List ℕ) → Appended 6 decodeAction (n .actions) (actionOf r ImplicitlyInitialized ∷ []) a a′ x → Others r (n .discards) d d′ kept
+  pub implicit-leaves : (a′ c : List ℕ) → Appended actionNumbers decodeAction (n .actions) (actionOf r ImplicitlyInitialized ∷ []) a a′ x → Others r (n .discards) d d′ kept
       → Leaves (registerInitAction r ImplicitlyInitialized (held n d a c)) n (record { discards = kept; actions = x; clears = n .clears }) d d′ a a′ c c
   unfolding registerInitAction
   implicit-leaves a′ c added stay = record {
     lists = λ q. record { discards = stay .first q; actions = added .first q; clears = surfaces (n .clears) c };
-    past-discards = λ m h g. past-more 3 decodeSurface (n .discards) m d d′ h (stay .past);
+    past-discards = λ m h g. past-more surfaceNumbers decodeSurface (n .discards) m d d′ h (stay .past);
     past-actions = added .past;
     past-clears = refl;
   }
 
-  pub needing-leaves : (a₁ a′ c c′ : List ℕ) (y z : ℕ) → Appended 6 decodeAction (n .actions) (actionOf r NeedsInitializedMemory ∷ []) a a₁ x
-      → Appended 6 decodeAction x (map implicitAt (matching r (surfaces (n .discards) d))) a₁ a′ y
-      → Appended 3 decodeSurface (n .clears) (matching r (surfaces (n .discards) d)) c c′ z → Others r (n .discards) d d′ kept
+  pub needing-leaves : (a₁ a′ c c′ : List ℕ) (y z : ℕ) → Appended actionNumbers decodeAction (n .actions) (actionOf r NeedsInitializedMemory ∷ []) a a₁ x
+      → Appended actionNumbers decodeAction x (map implicitAt (matching r (surfaces (n .discards) d))) a₁ a′ y
+      → Appended surfaceNumbers decodeSurface (n .clears) (matching r (surfaces (n .discards) d)) c c′ z → Others r (n .discards) d d′ kept
       → Leaves (registerInitAction r NeedsInitializedMemory (held n d a c)) n (record { discards = kept; actions = y; clears = z }) d d′ a a′ c c′
   unfolding registerInitAction
   needing-leaves a₁ a′ c c′ y z whole implicit returned stay =
-      let added = append-twice 6 decodeAction (n .actions) x y _ _ a a₁ a′ whole implicit in
+      let added = append-twice actionNumbers decodeAction (n .actions) x y _ _ a a₁ a′ whole implicit in
       record {
         lists = λ q. record { discards = stay .first q; actions = added .first q; clears = returned .first q };
-        past-discards = λ m h g. past-more 3 decodeSurface (n .discards) m d d′ h (stay .past);
+        past-discards = λ m h g. past-more surfaceNumbers decodeSurface (n .discards) m d d′ h (stay .past);
         past-actions = added .past;
         past-clears = returned .past;
       }
 
 -- The room that a registration asks, in numbers.
 module _ (r : Range) (n : Counts) (d a c : List ℕ) where
-  pub implicit-room : Room (registerInitAction r ImplicitlyInitialized (held n d a c)) n d a c → 6 * n .actions + 6 ≤ length a
+  pub implicit-room : Room (registerInitAction r ImplicitlyInitialized (held n d a c)) n d a c → actionNumbers * n .actions + actionNumbers ≤ length a
   unfolding registerInitAction
   implicit-room room =
-      omega (arith, room .actions, length-append (held n d a c .actions) (actionOf r ImplicitlyInitialized ∷ []), records-length 6 decodeAction (n .actions) a)
+      omega (arith, room .actions, length-append (held n d a c .actions) (actionOf r ImplicitlyInitialized ∷ []), records-length actionNumbers decodeAction (n .actions) a)
 
   abbrev returned : ℕ
   returned = length (matching r (surfaces (n .discards) d))
 
-  pub needing-actions : Room (registerInitAction r NeedsInitializedMemory (held n d a c)) n d a c → 6 * (n .actions + 1 + returned) ≤ length a
+  pub needing-actions : Room (registerInitAction r NeedsInitializedMemory (held n d a c)) n d a c → actionNumbers * (n .actions + 1 + returned) ≤ length a
   unfolding registerInitAction
   needing-actions room =
       omega (
@@ -63,13 +63,13 @@ module _ (r : Range) (n : Counts) (d a c : List ℕ) where
         room .actions,
         length-append (held n d a c .actions) (actionOf r NeedsInitializedMemory ∷ map implicitAt (matching r (surfaces (n .discards) d))),
         length-map (matching r (surfaces (n .discards) d)) implicitAt,
-        records-length 6 decodeAction (n .actions) a,
+        records-length actionNumbers decodeAction (n .actions) a,
       )
 
-  pub needing-clears : Room (registerInitAction r NeedsInitializedMemory (held n d a c)) n d a c → 3 * (n .clears + returned) ≤ length c
+  pub needing-clears : Room (registerInitAction r NeedsInitializedMemory (held n d a c)) n d a c → surfaceNumbers * (n .clears + returned) ≤ length c
   unfolding registerInitAction
   needing-clears room =
-      omega (arith, room .clears, length-append (held n d a c .clears) (matching r (surfaces (n .discards) d)), records-length 3 decodeSurface (n .clears) c)
+      omega (arith, room .clears, length-append (held n d a c .clears) (matching r (surfaces (n .discards) d)), records-length surfaceNumbers decodeSurface (n .clears) c)
 
 -- The same lists by another name.
 pub room-of : (l l′ : Lists) (n : Counts) (d a c : List ℕ) → l ≡ l′ → Room l n d a c → Room l′ n d a c
@@ -89,7 +89,7 @@ plan-room r true l n d a c room =
     record { listed = room .listed; discards = omega (arith, room .discards, length-append (l .discards) (named r)); actions = room .actions; clears = room .clears }
 
 pub discard-room : (r : Range) (b : Bool) (l : Lists) (n m : Counts) (d d₁ a a₁ c c₁ : List ℕ) → b ≡ true → Room (discarded r b l) n d a c → Leaves l n m d d₁ a a₁ c c₁
-    → 3 * m .discards + 3 ≤ length d
+    → surfaceNumbers * m .discards + surfaceNumbers ≤ length d
 discard-room r b l n m d d₁ a a₁ c c₁ e room left =
     let told = room-of (discarded r b l) (discarded r true l) n d a c (ap (λ q. discarded r q l) e) room in
     omega (
@@ -97,22 +97,22 @@ discard-room r b l n m d d₁ a a₁ c c₁ e room left =
       told .discards,
       length-append (l .discards) (named r),
       ap (λ (q : Lists). length (q .discards)) (left .lists),
-      records-length 3 decodeSurface (m .discards) d₁,
+      records-length surfaceNumbers decodeSurface (m .discards) d₁,
     )
 
 -- A registration and then a discard.
 pub discard-leaves : (r : Range) (l : Lists) (n m : Counts) (d d₁ d′ a a₁ c c₁ : List ℕ) (s : Surface) (x : ℕ) → Leaves l n m d d₁ a a₁ c c₁
-    → s ≡ firstOf r → Appended 3 decodeSurface (m .discards) (s ∷ []) d₁ d′ x
+    → s ≡ firstOf r → Appended surfaceNumbers decodeSurface (m .discards) (s ∷ []) d₁ d′ x
     → Leaves (discarded r true l) n (record { discards = x; actions = m .actions; clears = m .clears }) d d′ a a₁ c c₁
 discard-leaves r l n m d d₁ d′ a a₁ c c₁ s x left named listed =
-    let one : x ≡ m .discards + 1 = append-count 3 decodeSurface (m .discards) x (s ∷ []) d₁ d′ listed in
+    let one : x ≡ m .discards + 1 = append-count surfaceNumbers decodeSurface (m .discards) x (s ∷ []) d₁ d′ listed in
     record {
       lists = λ q. record {
         discards = (listed .first ∙ λ p. left .lists p .discards ++ (named p ∷ [])) q;
         actions = left .lists q .actions;
         clears = left .lists q .clears;
       };
-      past-discards = λ k h g. past-more 3 decodeSurface x k d₁ d′ g (listed .past) ∙ left .past-discards k h (omega arith);
+      past-discards = λ k h g. past-more surfaceNumbers decodeSurface x k d₁ d′ g (listed .past) ∙ left .past-discards k h (omega arith);
       past-actions = left .past-actions;
       past-clears = left .past-clears;
     }
@@ -125,10 +125,10 @@ pub spared-step : (l : Lists) (m r : Counts) (d d₁ d₂ a a₁ a₂ c c₁ c�
     → m .discards ≤ maxDiscards → r .discards ≤ maxDiscards → m .actions ≤ r .actions → m .clears ≤ r .clears → Spared r d d₂ a a₂ c c₂
 spared-step l m r d d₁ d₂ a a₁ a₂ c c₁ c₂ s left hm hr ha hc = record {
   discards = left .past-discards maxDiscards hm hr ∙ s .discards;
-  actions = left .past-actions ∙ past-more 6 decodeAction (m .actions) (r .actions) a a₁ ha (s .actions);
-  clears = left .past-clears ∙ past-more 3 decodeSurface (m .clears) (r .clears) c c₁ hc (s .clears);
+  actions = left .past-actions ∙ past-more actionNumbers decodeAction (m .actions) (r .actions) a a₁ ha (s .actions);
+  clears = left .past-clears ∙ past-more surfaceNumbers decodeSurface (m .clears) (r .clears) c c₁ hc (s .clears);
 }
 
 -- The count of discards that a call leaves is the length of their list.
 pub leaves-discards : (l : Lists) (n r : Counts) (d d′ a a′ c c′ : List ℕ) → Leaves l n r d d′ a a′ c c′ → r .discards ≡ length (l .discards)
-leaves-discards l n r d d′ a a′ c c′ left = sym (records-length 3 decodeSurface (r .discards) d′) ∙ ap (λ (q : Lists). length (q .discards)) (left .lists)
+leaves-discards l n r d d′ a a′ c c′ left = sym (records-length surfaceNumbers decodeSurface (r .discards) d′) ∙ ap (λ (q : Lists). length (q .discards)) (left .lists)

@@ -5,6 +5,7 @@ use mathlib.Core.Path.{_≡_, refl, sym, ap, _∙_}
 use mathlib.Core.List.{List, [], _∷_}
 use lib.ListN.{length, take, drop, set, getD}
 use lib.Seq.{sets}
+use Rattle.definition.specs.Sizes.{surfaceNumbers}
 use Rattle.definition.specs.Surfaces.{surfaceAt}
 use Rattle.definition.specs.declared.Surface.{Surface}
 use Rattle.laws.specs.Records.{recordAt}
@@ -18,14 +19,14 @@ abbrev pub none : Surface
 none = surfaceAt 0 0 0
 
 -- The place of the next record.
-further : (i : ℕ) → 3 * suc i ≡ suc (suc (suc (3 * i)))
+further : (i : ℕ) → surfaceNumbers * suc i ≡ suc (suc (suc (surfaceNumbers * i)))
 further i = omega arith
 
-pub numbers-length : (l : List Surface) → length (numbers l) ≡ 3 * length l
+pub numbers-length : (l : List Surface) → length (numbers l) ≡ surfaceNumbers * length l
 numbers-length [] = refl
 numbers-length (x ∷ l) = ap (λ (q : ℕ). suc (suc (suc q))) (numbers-length l) ∙ sym (further (length l))
 
-pub numbers-set : (l : List Surface) (i : ℕ) (s : Surface) → numbers (set l i s) ≡ sets (numbers l) (3 * i) (encodeSurface s)
+pub numbers-set : (l : List Surface) (i : ℕ) (s : Surface) → numbers (set l i s) ≡ sets (numbers l) (surfaceNumbers * i) (encodeSurface s)
 numbers-set [] i s = refl
 numbers-set (x ∷ l) zero s = refl
 numbers-set (x ∷ l) (suc i) s = ap (λ q. x .texture ∷ x .mip ∷ x .layer ∷ q) (numbers-set l i s) ∙ ap (λ (q : ℕ). sets (numbers (x ∷ l)) q (encodeSurface s)) (sym (further i))
@@ -35,8 +36,8 @@ pub numbers-at : (l : List Surface) (i : ℕ) → i < length l → getD l i none
 unfolding recordAt decodeSurface
 numbers-at [] i h = absurd (omega arith)
 numbers-at (x ∷ l) zero h = refl
-numbers-at (x ∷ l) (suc i) h = numbers-at l i (omega arith) ∙ ap (λ (q : ℕ). decodeSurface (take 3 (drop q (numbers (x ∷ l))))) (sym (further i))
+numbers-at (x ∷ l) (suc i) h = numbers-at l i (omega arith) ∙ ap (λ (q : ℕ). decodeSurface (take surfaceNumbers (drop q (numbers (x ∷ l))))) (sym (further i))
 
 -- A record is written at place i.
-pub slice-written : (l : List Surface) (i : ℕ) (s : Surface) → i < length l → Written 3 decodeSurface i s (numbers l) (numbers (set l i s))
+pub slice-written : (l : List Surface) (i : ℕ) (s : Surface) → i < length l → Written surfaceNumbers decodeSurface i s (numbers l) (numbers (set l i s))
 slice-written l i s h = surface-written (numbers l) (numbers (set l i s)) i s (omega (arith, numbers-length l)) (numbers-set l i s)

@@ -4,6 +4,7 @@ use mathlib.Core.Path.{_≡_}
 use mathlib.Core.Bool.{not}
 use mathlib.Core.List.{List, [], _∷_, _++_}
 use lib.ListN.{length, take}
+use Rattle.definition.specs.Sizes.{surfaceNumbers}
 use Rattle.definition.specs.Surfaces.{hits, rangeAt}
 use Rattle.definition.specs.MemoryInit.{others}
 use Rattle.definition.specs.declared.Surface.{Surface}
@@ -22,12 +23,12 @@ numbers (s ∷ l) = s .texture ∷ s .mip ∷ s .layer ∷ numbers l
 
 -- A discard is appended where there is room, as in the flat list, so that the slice has the first n and the discard; else the slice stays.
 pub record Listed (n : ℕ) (s : Surface) (l l′ : List Surface) (r : ℕ) : Type 0 where
-  pub appended : n < length l → Appended 3 decodeSurface n (s ∷ []) (numbers l) (numbers l′) r
+  pub appended : n < length l → Appended surfaceNumbers decodeSurface n (s ∷ []) (numbers l) (numbers l′) r
   pub records : n < length l → take r l′ ≡ take n l ++ (s ∷ [])
   pub refused : length l ≤ n → (l′ ≡ l) × (r ≡ n)
 
 -- The discards that the range does not hit are retained, as in the flat list, so that the slice has those that the definition keeps; where there are not n, the slice stays.
 pub record Kept (n : ℕ) (range : Range) (l l′ : List Surface) (r : ℕ) : Type 0 where
-  pub retained : n ≤ length l → Retained 3 decodeSurface (λ s. not (hits range s)) n (numbers l) (numbers l′) r
+  pub retained : n ≤ length l → Retained surfaceNumbers decodeSurface (λ s. not (hits range s)) n (numbers l) (numbers l′) r
   pub records : n ≤ length l → take r l′ ≡ others range (take n l)
   pub refused : length l < n → (l′ ≡ l) × (r ≡ n)

@@ -16,6 +16,7 @@ ghost use mathlib.Core.Bool.{not};
 ghost use Prim.Native.Nat.{ℕ, _+_, _*_, _≤_};
 ghost use mathlib.Core.List.{List, _∷_, [], map};
 ghost use lib.ListN.{length};
+ghost use Rattle.definition.specs.Sizes.{surfaceNumbers, actionNumbers};
 ghost use Rattle.definition.specs.Surfaces as Surfaces;
 ghost use Rattle.definition.specs.MemoryInit.{implicitAt, matching, registerInitAction, registered, applyPlan};
 ghost use Rattle.definition.specs.declared.MemoryInitKind.the-variants.{ImplicitlyInitialized, NeedsInitializedMemory};
@@ -38,8 +39,8 @@ pub enum InitKind {
 
 // A discard goes to the end of the list.
 pub fn discard(discards: &mut [u32], n: usize, s: Surface) -> usize
-    requires { ⌜ 3 * n + 3 ≤ length (now discards) ⌝ }
-    ensures { λ r. ⌜ Appended 3 decodeSurface n (s ∷ []) (now (discards .entry)) (now (discards .exit)) r ⌝ }
+    requires { ⌜ surfaceNumbers * n + surfaceNumbers ≤ length (now discards) ⌝ }
+    ensures { λ r. ⌜ Appended surfaceNumbers decodeSurface n (s ∷ []) (now (discards .entry)) (now (discards .exit)) r ⌝ }
 {
     put_surface(discards, n, s);
     n + 1
@@ -47,8 +48,8 @@ pub fn discard(discards: &mut [u32], n: usize, s: Surface) -> usize
 
 // An action goes to the end of the list.
 pub fn push_action(actions: &mut [u32], a: usize, range: Range, kind: MemoryInitKind) -> usize
-    requires { ⌜ 6 * a + 6 ≤ length (now actions) ⌝ }
-    ensures { λ r. ⌜ Appended 6 decodeAction a (actionOf range kind ∷ []) (now (actions .entry)) (now (actions .exit)) r ⌝ }
+    requires { ⌜ actionNumbers * a + actionNumbers ≤ length (now actions) ⌝ }
+    ensures { λ r. ⌜ Appended actionNumbers decodeAction a (actionOf range kind ∷ []) (now (actions .entry)) (now (actions .exit)) r ⌝ }
 {
     put_action(actions, a, range, kind);
     a + 1
@@ -56,8 +57,8 @@ pub fn push_action(actions: &mut [u32], a: usize, range: Range, kind: MemoryInit
 
 // The discards outside the range stay, in order (Vec::retain).
 pub fn retain_others(discards: &mut [u32], n: usize, range: Range) -> usize
-    requires { ⌜ 3 * n ≤ length (now discards) ⌝ }
-    ensures { λ r. ⌜ Retained 3 decodeSurface (λ s. not (Surfaces.hits range s)) n (now (discards .entry)) (now (discards .exit)) r ⌝ }
+    requires { ⌜ surfaceNumbers * n ≤ length (now discards) ⌝ }
+    ensures { λ r. ⌜ Retained surfaceNumbers decodeSurface (λ s. not (Surfaces.hits range s)) n (now (discards .entry)) (now (discards .exit)) r ⌝ }
 {
     let mut kept: usize = 0;
     let mut i: usize = 0;
@@ -80,8 +81,8 @@ pub fn return_clears(
     clears: &mut [u32],
     c: usize,
 ) -> usize
-    requires { ⌜ (3 * n ≤ length (now discards)) × (3 * (c + length (matching range (surfaces n (now discards)))) ≤ length (now clears)) ⌝ }
-    ensures { λ r. ⌜ Appended 3 decodeSurface c (matching range (surfaces n (now (discards .entry)))) (now (clears .entry)) (now (clears .exit)) r ⌝ }
+    requires { ⌜ (surfaceNumbers * n ≤ length (now discards)) × (surfaceNumbers * (c + length (matching range (surfaces n (now discards)))) ≤ length (now clears)) ⌝ }
+    ensures { λ r. ⌜ Appended surfaceNumbers decodeSurface c (matching range (surfaces n (now (discards .entry)))) (now (clears .entry)) (now (clears .exit)) r ⌝ }
 {
     let mut y = c;
     let mut i: usize = 0;
@@ -104,8 +105,8 @@ pub fn push_implicit_actions(
     actions: &mut [u32],
     a: usize,
 ) -> usize
-    requires { ⌜ (3 * n ≤ length (now discards)) × (6 * (a + length (matching range (surfaces n (now discards)))) ≤ length (now actions)) ⌝ }
-    ensures { λ r. ⌜ Appended 6 decodeAction a (map implicitAt (matching range (surfaces n (now (discards .entry))))) (now (actions .entry)) (now (actions .exit)) r ⌝ }
+    requires { ⌜ (surfaceNumbers * n ≤ length (now discards)) × (actionNumbers * (a + length (matching range (surfaces n (now discards)))) ≤ length (now actions)) ⌝ }
+    ensures { λ r. ⌜ Appended actionNumbers decodeAction a (map implicitAt (matching range (surfaces n (now (discards .entry))))) (now (actions .entry)) (now (actions .exit)) r ⌝ }
 {
     let mut y = a;
     let mut i: usize = 0;
@@ -132,7 +133,7 @@ pub fn register_implicit_init(
     n: Counts,
     range: Range,
 ) -> Counts
-    requires { ⌜ (3 * n .discards ≤ length (now discards)) × (6 * n .actions + 6 ≤ length (now actions)) ⌝ }
+    requires { ⌜ (surfaceNumbers * n .discards ≤ length (now discards)) × (actionNumbers * n .actions + actionNumbers ≤ length (now actions)) ⌝ }
     ensures { λ r. ⌜ ((c : List ℕ) → Leaves (registerInitAction range ImplicitlyInitialized (held n (now (discards .entry)) (now (actions .entry)) c)) n r (now (discards .entry)) (now (discards .exit)) (now (actions .entry)) (now (actions .exit)) c c) ⌝ }
 {
     let first = push_action(

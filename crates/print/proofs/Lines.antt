@@ -7,10 +7,11 @@ use native.Mathlib.Nat.{add-zero, not-suc-le-zero}
 use native.Mathlib.Numerals.{add-one}
 use borrow.Author.Tests.{lt-ltb, le-ltb}
 use lib.ListN.{length}
+use Rattle.definition.specs.Sizes.{rowNumbers, rowBytes}
 use Rattle.definition.specs.Bytes.{u32At}
 use Rattle.lent.specs.Numbers.{numbersAt}
 use Rattle.lent.proofs.Numbers.{length-numbers}
-use Rattle.rows.specs.Rows.{rowNumbers, rowBytes, rowsIn}
+use Rattle.rows.specs.Rows.{rowsIn}
 use Rattle.rows.proofs.Rows.{rows-next}
 use Rattle.print.specs.Text.{places, digits, decimal, space, joined, lineText, linesText}
 

@@ -8,10 +8,10 @@ use native.Mathlib.Omega.{arith}
 use borrow.Author.Tests.{eq-eqb, ne-eqb}
 use lib.Dec.{eqb}
 use lib.ListN.{length, length-take}
+use Rattle.definition.specs.Sizes.{longestSession}
 use Rattle.definition.specs.Session.{session, totalLength}
 use Rattle.definition.specs.Readable.{sessionRefusal}
 use Rattle.definition.specs.Program.{deskcheck}
-use Rattle.print.specs.Most.{mostBytes}
 use Rattle.print.proofs.Most.{long-refused}
 use Rattle.readable.proofs.Valid.{valid-of}
 use Rattle.rows.specs.Rows.{rowsIn}
@@ -39,7 +39,7 @@ unfolding output
 printed-refusal s text n q z e = e ∙ ap refusalText q ∙ simp (ne-eqb (sessionRefusal s) 0 (λ x. z (q ∙ x)))
 
 -- A file that is longer than any session is refused.
-pub long-not-readable : (s : List ℕ) → mostBytes < length s → sessionRefusal s ≢ 0
+pub long-not-readable : (s : List ℕ) → longestSession < length s → sessionRefusal s ≢ 0
 long-not-readable s h z = go (eqb (totalLength s) (length s)) (sym z ∙ long-refused s h)
   where
     go : (b : Bool) → _≡_ {A = ℕ} 0 (cond b 2 1) → ⊥

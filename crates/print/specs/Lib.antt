@@ -1,6 +1,5 @@
 -- The root of what this crate means.
 pub mod Front
-pub mod Most
 pub mod Text
 pub mod Output
 pub mod Examples

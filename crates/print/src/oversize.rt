@@ -6,13 +6,13 @@ ghost use mathlib.Core.Path.{_≡_};
 ghost use mathlib.Core.List.{List};
 ghost use Prim.Native.Nat.{ℕ, _<_};
 ghost use lib.ListN.{length};
+ghost use Rattle.definition.specs.Sizes.{longestSession};
 ghost use Rattle.definition.specs.Session as Se;
 ghost use Rattle.definition.specs.Readable.{sessionRefusal};
-ghost use Rattle.print.specs.Most.{mostBytes};
 
 // 1 where the length field is wrong, else 2: for every file with that length and that field.
 pub fn oversize_refusal(head: &[u8], bytes: u64) -> u32
-    ensures { λ r. ⌜ ((file : List ℕ) → length file ≡ bytes → Se.totalLength file ≡ Se.totalLength (now (head .entry)) → mostBytes < bytes → r ≡ sessionRefusal file) ⌝ }
+    ensures { λ r. ⌜ ((file : List ℕ) → length file ≡ bytes → Se.totalLength file ≡ Se.totalLength (now (head .entry)) → longestSession < bytes → r ≡ sessionRefusal file) ⌝ }
 {
     if u32_at(head, TOTAL_LENGTH) as u64 == bytes {
         2

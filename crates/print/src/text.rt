@@ -1,14 +1,15 @@
 // What `deskcheck` prints, as bytes. Each function writes at a place and answers the place after; what stands before that
 // place in the buffer is the text so far.
-use rows::ROW_BYTES;
-use rows::ROW_NUMBERS;
+use definition::sizes::ROW_BYTES;
+use definition::sizes::ROW_NUMBERS;
 use wire::u32_at;
 ghost use mathlib.Core.Path.{_≡_};
 ghost use mathlib.Core.List.{[], _∷_, _++_};
 ghost use Prim.Native.Nat.{_+_, _*_, _/_, _%_, _^_, _≤_, _<_};
 ghost use lib.ListN.{length, take};
+ghost use Rattle.definition.specs.Sizes.{rowNumbers, rowBytes};
 ghost use Rattle.lent.specs.Numbers.{numbersAt};
-ghost use Rattle.rows.specs.Rows.{rowNumbers, rowBytes, rowsIn};
+ghost use Rattle.rows.specs.Rows.{rowsIn};
 ghost use Rattle.print.specs.Text as T;
 
 // The most bytes of a row's line.

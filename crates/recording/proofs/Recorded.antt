@@ -6,7 +6,7 @@ use mathlib.Core.Bool.{Bool, true, false}
 use mathlib.Core.List.{List, [], _∷_, _++_, append-assoc}
 use mathlib.Core.Option.{Option, none, some}
 use lib.ListN.{length, length-append}
-use Rattle.definition.specs.Sizes.{maxDiscards}
+use Rattle.definition.specs.Sizes.{maxDiscards, surfaceNumbers, actionNumbers}
 use Rattle.definition.specs.Session.{Pass, Session, isNone, viewRange}
 use Rattle.definition.specs.MemoryInit.{Lists, matching, registerInitAction, registered, discarded, applyPlan}
 use Rattle.definition.specs.Attachments.{Attached, discards, attach, attachAll, resolveTo, colorOf, resolvePart, depthStencilPart, slotPart, slotParts, attachments}
@@ -51,10 +51,10 @@ grown : {A : Type 0} (k : ℕ) (decode : List ℕ → A) (n r : ℕ) (x x′ : L
 grown k decode n r x x′ ys e h = omega (arith, records-length k decode n x, records-length k decode r x′, ap length e, h)
 
 recorded-actions : (xs : List Attached) (n r : Counts) (d d′ a a′ c c′ : List ℕ) → Recorded xs n r d d′ a a′ c c′ → n .actions ≤ r .actions
-recorded-actions xs n r d d′ a a′ c c′ g = grown 6 decodeAction (n .actions) (r .actions) a a′ _ (ap (λ (q : Lists). q .actions) (g .lists)) (actions-grow xs (held n d a c))
+recorded-actions xs n r d d′ a a′ c c′ g = grown actionNumbers decodeAction (n .actions) (r .actions) a a′ _ (ap (λ (q : Lists). q .actions) (g .lists)) (actions-grow xs (held n d a c))
 
 recorded-clears : (xs : List Attached) (n r : Counts) (d d′ a a′ c c′ : List ℕ) → Recorded xs n r d d′ a a′ c c′ → n .clears ≤ r .clears
-recorded-clears xs n r d d′ a a′ c c′ g = grown 3 decodeSurface (n .clears) (r .clears) c c′ _ (ap (λ (q : Lists). q .clears) (g .lists)) (clears-grow xs (held n d a c))
+recorded-clears xs n r d d′ a a′ c c′ g = grown surfaceNumbers decodeSurface (n .clears) (r .clears) c c′ _ (ap (λ (q : Lists). q .clears) (g .lists)) (clears-grow xs (held n d a c))
 
 pub recorded-none : (n : Counts) (d a c : List ℕ) → n .discards ≤ maxDiscards → Recorded [] n n d d a a c c
 recorded-none n d a c h = record { lists = refl; spared = spared-none n d a c; small = h }
@@ -65,8 +65,8 @@ recorded-then xs ys n m r d d₁ d′ a a₁ a′ c c₁ c′ g h = record {
   lists = h .lists ∙ ap (attachAll ys) (g .lists) ∙ sym (attach-append xs ys (held n d a c));
   spared = record {
     discards = h .spared .discards ∙ g .spared .discards;
-    actions = h .spared .actions ∙ past-more 6 decodeAction (m .actions) (r .actions) a a₁ (recorded-actions ys m r d₁ d′ a₁ a′ c₁ c′ h) (g .spared .actions);
-    clears = h .spared .clears ∙ past-more 3 decodeSurface (m .clears) (r .clears) c c₁ (recorded-clears ys m r d₁ d′ a₁ a′ c₁ c′ h) (g .spared .clears);
+    actions = h .spared .actions ∙ past-more actionNumbers decodeAction (m .actions) (r .actions) a a₁ (recorded-actions ys m r d₁ d′ a₁ a′ c₁ c′ h) (g .spared .actions);
+    clears = h .spared .clears ∙ past-more surfaceNumbers decodeSurface (m .clears) (r .clears) c c₁ (recorded-clears ys m r d₁ d′ a₁ a′ c₁ c′ h) (g .spared .clears);
   };
   small = h .small;
 }
@@ -85,8 +85,8 @@ recorded-attach p x space n r d d′ a a′ c c′ e lent fit left =
     record {
       lists = left .lists ∙ same;
       spared = spared-step l n r d d d′ a a a′ c c c′ (spared-none n d a c) left (lent .held) few
-          (grown 6 decodeAction (n .actions) (r .actions) a a′ _ (ap (λ (q : Lists). q .actions) (left .lists ∙ same)) (actions-grow (x ∷ []) (held n d a c)))
-          (grown 3 decodeSurface (n .clears) (r .clears) c c′ _ (ap (λ (q : Lists). q .clears) (left .lists ∙ same)) (clears-grow (x ∷ []) (held n d a c)));
+          (grown actionNumbers decodeAction (n .actions) (r .actions) a a′ _ (ap (λ (q : Lists). q .actions) (left .lists ∙ same)) (actions-grow (x ∷ []) (held n d a c)))
+          (grown surfaceNumbers decodeSurface (n .clears) (r .clears) c c′ _ (ap (λ (q : Lists). q .clears) (left .lists ∙ same)) (clears-grow (x ∷ []) (held n d a c)));
       small = few;
     }
 

@@ -3,18 +3,18 @@ use Prim.Native.Nat.{ℕ, _≤_}
 use mathlib.Core.Path.{_≡_}
 use mathlib.Core.List.{List, _++_}
 use lib.ListN.{length}
-use Rattle.definition.specs.Sizes.{maxDiscards}
+use Rattle.definition.specs.Sizes.{maxDiscards, discardsNumbers, clearsNumbers}
 use Rattle.definition.specs.MemoryInit.{Lists}
 use Rattle.definition.specs.Attachments.{Attached, attachAll}
 use Rattle.memory_init.specs.declared.Counts.{Counts}
 use Rattle.memory_init.specs.Lent.{held, Spared}
 use Rattle.room.proofs.Room.{Fit}
 
--- The lent lists of discards and clears are long enough: 64 discards, 80 clears.
+-- The lent lists of discards and clears are long enough for all their room.
 pub record Lent (n : Counts) (d c : List ℕ) : Type 0 where
   pub held : n .discards ≤ maxDiscards
-  pub discards : 192 ≤ length d
-  pub clears : 240 ≤ length c
+  pub discards : discardsNumbers ≤ length d
+  pub clears : clearsNumbers ≤ length c
 
 -- There is room for what every first part of xs leaves, from the lists l, where the lent list of actions has so many numbers.
 abbrev pub Fitting : ℕ → List Attached → Lists → Type 0

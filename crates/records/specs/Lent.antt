@@ -5,6 +5,7 @@ use mathlib.Core.Bool.{cond}
 use mathlib.Core.List.{List, [], _∷_}
 use lib.Dec.{leb}
 use lib.ListN.{getD}
+use Rattle.definition.specs.Sizes.{surfaceNumbers, actionNumbers}
 use Rattle.definition.specs.Surfaces.{surfaceAt, rangeAt}
 use Rattle.definition.specs.declared.Surface.{Surface}
 use Rattle.definition.specs.declared.Range.{Range}
@@ -45,14 +46,14 @@ encodeAction r k = r .texture ∷ r .mip ∷ r .mips ∷ r .layer ∷ r .layers 
 
 -- The first n surfaces, and the one at place i.
 abbrev pub surfaces : ℕ → List ℕ → List Surface
-surfaces n l = records 3 decodeSurface n l
+surfaces n l = records surfaceNumbers decodeSurface n l
 
 abbrev pub surfaceIn : ℕ → List ℕ → Surface
-surfaceIn i l = recordAt 3 decodeSurface i l
+surfaceIn i l = recordAt surfaceNumbers decodeSurface i l
 
 -- The first n actions, and the one at place i.
 abbrev pub actions : ℕ → List ℕ → List Action
-actions n l = records 6 decodeAction n l
+actions n l = records actionNumbers decodeAction n l
 
 abbrev pub actionIn : ℕ → List ℕ → Action
-actionIn i l = recordAt 6 decodeAction i l
+actionIn i l = recordAt actionNumbers decodeAction i l

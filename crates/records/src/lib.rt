@@ -3,10 +3,13 @@
 use definition::MemoryInitKind;
 use definition::Range;
 use definition::Surface;
+use definition::sizes::ACTION_NUMBERS;
+use definition::sizes::SURFACE_NUMBERS;
 ghost use mathlib.Core.Path.{_≡_};
 ghost use Prim.Native.Nat.{_+_, _*_, _≤_};
 ghost use lib.ListN.{length};
 ghost use lib.Seq.{sets};
+ghost use Rattle.definition.specs.Sizes.{surfaceNumbers, actionNumbers};
 ghost use Rattle.definition.specs.Surfaces as Surfaces;
 ghost use Rattle.records.specs.Lent.{encodeSurface, decodeKind, encodeKind, layersOf, encodeAction, surfaceIn, actionIn};
 
@@ -52,10 +55,10 @@ pub fn only_range(s: Surface) -> Range
 
 // The surface at place i.
 pub fn surface_at(l: &[u32], i: usize) -> Surface
-    requires { ⌜ 3 * i + 3 ≤ length (now l) ⌝ }
+    requires { ⌜ surfaceNumbers * i + surfaceNumbers ≤ length (now l) ⌝ }
     ensures { λ r. ⌜ r ≡ surfaceIn i (now (l .entry)) ⌝ }
 {
-    let at = 3 * i;
+    let at = SURFACE_NUMBERS * i;
     Surface {
         texture: l[at],
         mip: l[at + 1],
@@ -65,10 +68,10 @@ pub fn surface_at(l: &[u32], i: usize) -> Surface
 
 // A surface goes to place i.
 pub fn put_surface(l: &mut [u32], i: usize, s: Surface)
-    requires { ⌜ 3 * i + 3 ≤ length (now l) ⌝ }
-    ensures { λ _. ⌜ now (l .exit) ≡ sets (now (l .entry)) (3 * i) (encodeSurface s) ⌝ }
+    requires { ⌜ surfaceNumbers * i + surfaceNumbers ≤ length (now l) ⌝ }
+    ensures { λ _. ⌜ now (l .exit) ≡ sets (now (l .entry)) (surfaceNumbers * i) (encodeSurface s) ⌝ }
 {
-    let at = 3 * i;
+    let at = SURFACE_NUMBERS * i;
     l[at] = s.texture;
     l[at + 1] = s.mip;
     l[at + 2] = s.layer;
@@ -97,10 +100,10 @@ pub fn decode_kind(number: u32) -> MemoryInitKind
 
 // An action goes to place i.
 pub fn put_action(l: &mut [u32], i: usize, range: Range, kind: MemoryInitKind)
-    requires { ⌜ 6 * i + 6 ≤ length (now l) ⌝ }
-    ensures { λ _. ⌜ now (l .exit) ≡ sets (now (l .entry)) (6 * i) (encodeAction range kind) ⌝ }
+    requires { ⌜ actionNumbers * i + actionNumbers ≤ length (now l) ⌝ }
+    ensures { λ _. ⌜ now (l .exit) ≡ sets (now (l .entry)) (actionNumbers * i) (encodeAction range kind) ⌝ }
 {
-    let at = 6 * i;
+    let at = ACTION_NUMBERS * i;
     l[at] = range.texture;
     l[at + 1] = range.mip;
     l[at + 2] = range.mips;
@@ -118,10 +121,10 @@ pub fn layers_of(kind: u32, layers: u32) -> u32
 
 // The range of the action at place i.
 pub fn range_at(l: &[u32], i: usize) -> Range
-    requires { ⌜ 6 * i + 6 ≤ length (now l) ⌝ }
+    requires { ⌜ actionNumbers * i + actionNumbers ≤ length (now l) ⌝ }
     ensures { λ r. ⌜ r ≡ actionIn i (now (l .entry)) .range ⌝ }
 {
-    let at = 6 * i;
+    let at = ACTION_NUMBERS * i;
     Range {
         texture: l[at],
         mip: l[at + 1],
@@ -133,8 +136,8 @@ pub fn range_at(l: &[u32], i: usize) -> Range
 
 // The kind of the action at place i.
 pub fn kind_at(l: &[u32], i: usize) -> MemoryInitKind
-    requires { ⌜ 6 * i + 6 ≤ length (now l) ⌝ }
+    requires { ⌜ actionNumbers * i + actionNumbers ≤ length (now l) ⌝ }
     ensures { λ r. ⌜ r ≡ actionIn i (now (l .entry)) .kind ⌝ }
 {
-    decode_kind(l[6 * i + 5])
+    decode_kind(l[ACTION_NUMBERS * i + 5])
 }

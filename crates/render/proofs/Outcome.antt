@@ -5,7 +5,7 @@ use mathlib.Core.Path.{_≡_, refl, sym, ap, subst, _∙_}
 use mathlib.Core.Bool.{Bool, true, false, cond}
 use mathlib.Core.List.{List, [], append-nil}
 use lib.ListN.{length, length-map}
-use Rattle.definition.specs.Sizes.{maxDiscards, maxActions}
+use Rattle.definition.specs.Sizes.{maxSlots, maxDiscards, maxActions, surfaceNumbers, actionNumbers, maxAttachments, maxAdded}
 use Rattle.definition.specs.Session.{Pass, Session}
 use Rattle.definition.specs.Verdict.{nowhere, isFine}
 use Rattle.definition.specs.Readable.{passReads}
@@ -32,18 +32,18 @@ use Rattle.recording.specs.Recorded.{Fitting, Recorded}
 use Rattle.recording.proofs.Recorded.{fitting-as}
 use Rattle.render.specs.declared.PassReply.{PassReply}
 use Rattle.render.specs.declared.PassOutcome.{PassOutcome}
-use Rattle.render.specs.Outcome.{maxAdded, replied, refusedOutcome, acceptedOutcome, Whole, Accepted, Checked}
+use Rattle.render.specs.Outcome.{replied, refusedOutcome, acceptedOutcome, Whole, Accepted, Checked}
 use Rattle.render.proofs.Reply.{reply-accepted}
 use Rattle.render.proofs.Room.{pass-actions}
 
 -- ── the room of an accepted pass
 
 -- A pass that is not refused can be read.
-pub few-colors : (S : Session) (p : Pass) → isFine (check S p .verdict) ≡ true → p .colors ≤ 8
+pub few-colors : (S : Session) (p : Pass) → isFine (check S p .verdict) ≡ true → p .colors ≤ maxSlots
 unfolding check
 few-colors S p h = go (passReads S p) refl
   where
-    go : (b : Bool) → passReads S p ≡ b → p .colors ≤ 8
+    go : (b : Bool) → passReads S p ≡ b → p .colors ≤ maxSlots
     go true e = valid-pass S p e .colors
     go false e = let no : isFine (check S p .verdict) ≡ false = simp e in clash h no
 
@@ -63,13 +63,13 @@ held-cleared : (n : Counts) (d a c : List ℕ) → held (cleared n) d a c ≡ ne
 unfolding records
 held-cleared n d a c = refl
 
-module _ (S : Session) (p : Pass) (n : Counts) (d a c : List ℕ) (few : n .discards ≤ maxDiscards) (space : 6 * min maxActions (n .actions + maxAdded) ≤ length a) (colors : p .colors ≤ 8)
+module _ (S : Session) (p : Pass) (n : Counts) (d a c : List ℕ) (few : n .discards ≤ maxDiscards) (space : actionNumbers * min maxActions (n .actions + maxAdded) ≤ length a) (colors : p .colors ≤ maxSlots)
     (room : isFine (roomVerdict (attachments S p) (newPass (held n d a c))) ≡ true) where
   few-held : length (newPass (held n d a c) .discards) ≤ maxDiscards
-  few-held = omega (arith, records-length 3 decodeSurface (n .discards) d)
+  few-held = omega (arith, records-length surfaceNumbers decodeSurface (n .discards) d)
 
   few-actions : length (attachAll (attachments S p) (newPass (held n d a c)) .actions) ≤ min maxActions (n .actions + maxAdded)
-  few-actions = omega (arith, pass-actions S p (newPass (held n d a c)) colors few-held (room-actions _ _ room), records-length 6 decodeAction (n .actions) a)
+  few-actions = omega (arith, pass-actions S p (newPass (held n d a c)) colors few-held (room-actions _ _ room), records-length actionNumbers decodeAction (n .actions) a)
 
   fitting-new : Fitting (length a) (attachments S p) (newPass (held n d a c))
   fitting-new ys zs e =
@@ -87,11 +87,11 @@ module _ (S : Session) (p : Pass) (n : Counts) (d a c : List ℕ) (few : n .disc
   end-fits = fitting-new (attachments S p) [] (sym (append-nil (attachments S p)))
 
   -- What is recorded and replied is what an accepted pass leaves.
-  pub accepted : (seen : Seen) (m : Counts) (r : PassOutcome) (d′ a′ c′ : List ℕ) → length (attachments S p) ≤ 17 → Recorded (attachments S p) (cleared n) m d d′ a a′ c c′
+  pub accepted : (seen : Seen) (m : Counts) (r : PassOutcome) (d′ a′ c′ : List ℕ) → length (attachments S p) ≤ maxAttachments → Recorded (attachments S p) (cleared n) m d d′ a a′ c c′
       → r ≡ acceptedOutcome S (attachments S p) seen m → Accepted S (attachments S p) seen n r d d′ a a′ c c′
   accepted seen m r d′ a′ c′ most g e =
       let lists : held m d′ a′ c′ ≡ attachAll (attachments S p) (newPass (held n d a c)) = g .lists ∙ ap (attachAll (attachments S p)) (held-cleared n d a c) in
-      let told : length (attachAll (attachments S p) (newPass (held n d a c)) .clears) ≡ m .clears = sym (ap (λ (q : Lists). length (q .clears)) lists) ∙ records-length 3 decodeSurface (m .clears) c′ in
+      let told : length (attachAll (attachments S p) (newPass (held n d a c)) .clears) ≡ m .clears = sym (ap (λ (q : Lists). length (q .clears)) lists) ∙ records-length surfaceNumbers decodeSurface (m .clears) c′ in
       record {
         reply = ap (λ (q : PassOutcome). q .reply) e ∙ reply-accepted S (attachments S p) seen m (attachAll (attachments S p) (newPass (held n d a c)) .clears) told;
         lists = ap (λ (q : PassOutcome). held (q .counts) d′ a′ c′) e ∙ lists;
@@ -102,7 +102,7 @@ module _ (S : Session) (p : Pass) (n : Counts) (d a c : List ℕ) (few : n .disc
         spared = subst (λ (q : PassOutcome). Spared (q .counts) d d′ a a′ c c′) (sym e) (g .spared);
         within = subst (λ (q : PassOutcome). Within (q .counts)) (sym e) (record {
           discards = g .small;
-          actions = omega (arith, few-actions, records-length 6 decodeAction (m .actions) a′, ap (λ (q : Lists). length (q .actions)) lists);
+          actions = omega (arith, few-actions, records-length actionNumbers decodeAction (m .actions) a′, ap (λ (q : Lists). length (q .actions)) lists);
           clears = omega (arith, end-fits .clears, told);
         });
       }

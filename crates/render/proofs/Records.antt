@@ -5,6 +5,7 @@ use mathlib.Core.Path.{_≡_, refl, sym, ap, subst, _∙_}
 use mathlib.Core.Bool.{Bool, true, false, not, _&&_, cond}
 use mathlib.Core.List.{List, [], _∷_, _++_, map, append-assoc, append-nil}
 use lib.ListN.{length, take, set, length-append}
+use Rattle.definition.specs.Sizes.{maxAttachments}
 use Rattle.definition.specs.Session.{Pass, Session, isNone, viewRange}
 use Rattle.definition.specs.Attachments.{Attached, resolveTo, colorOf, slotPart, slotParts, resolvePart}
 use Rattle.definition.specs.Pass.{attachmentReply}
@@ -19,7 +20,7 @@ use Rattle.render.specs.Records.{padded, listed}
 
 -- The records and the count hold the list xs.
 pub record Holds (a : List Attachment) (n : ℕ) (xs : List Attachment) : Type 0 where
-  pub records : a ≡ padded 17 xs
+  pub records : a ≡ padded maxAttachments xs
   pub count : n ≡ length xs
 
 set-padded : (n : ℕ) (xs : List Attachment) (x : Attachment) → length xs < n → set (padded n xs) (length xs) x ≡ padded n (xs ++ (x ∷ []))
@@ -35,17 +36,17 @@ take-padded (suc n) [] h = refl
 take-padded (suc n) (x ∷ xs) h = ap (λ l. x ∷ l) (take-padded n xs (omega arith))
 
 -- One more, where the test passes.
-pub holds-more : (a a′ : List Attachment) (n n′ : ℕ) (xs : List Attachment) (x : Attachment) (t : Bool) → Holds a n xs → n < 17 → t ≡ true → a′ ≡ set a n x → n′ ≡ n + 1
+pub holds-more : (a a′ : List Attachment) (n n′ : ℕ) (xs : List Attachment) (x : Attachment) (t : Bool) → Holds a n xs → n < maxAttachments → t ≡ true → a′ ≡ set a n x → n′ ≡ n + 1
     → Holds a′ n′ (xs ++ cond t (x ∷ []) [])
 holds-more a a′ n n′ xs x t h l e ea en = record {
-  records = ea ∙ ap (λ q. set q n x) (h .records) ∙ ap (λ (q : ℕ). set (padded 17 xs) q x) (h .count) ∙ set-padded 17 xs x (omega (arith, h .count)) ∙ ap (λ q. padded 17 (xs ++ cond q (x ∷ []) [])) (sym e);
+  records = ea ∙ ap (λ q. set q n x) (h .records) ∙ ap (λ (q : ℕ). set (padded maxAttachments xs) q x) (h .count) ∙ set-padded maxAttachments xs x (omega (arith, h .count)) ∙ ap (λ q. padded maxAttachments (xs ++ cond q (x ∷ []) [])) (sym e);
   count = omega (arith, h .count, length-append xs (x ∷ [])) ∙ ap (λ q. length (xs ++ cond q (x ∷ []) [])) (sym e);
 }
 
 -- None more, where it fails.
 pub holds-same : (a a′ : List Attachment) (n n′ : ℕ) (xs : List Attachment) (x : Attachment) (t : Bool) → Holds a n xs → t ≡ false → a′ ≡ a → n′ ≡ n → Holds a′ n′ (xs ++ cond t (x ∷ []) [])
 holds-same a a′ n n′ xs x t h e ea en = record {
-  records = ea ∙ h .records ∙ ap (padded 17) (sym (append-nil xs)) ∙ ap (λ q. padded 17 (xs ++ cond q (x ∷ []) [])) (sym e);
+  records = ea ∙ h .records ∙ ap (padded maxAttachments) (sym (append-nil xs)) ∙ ap (λ q. padded maxAttachments (xs ++ cond q (x ∷ []) [])) (sym e);
   count = en ∙ h .count ∙ ap length (sym (append-nil xs)) ∙ ap (λ q. length (xs ++ cond q (x ∷ []) [])) (sym e);
 }
 
@@ -75,7 +76,7 @@ pub first-present : (S : Session) (d : DepthStencilPart) (xs : List Attached) (a
 first-present S d _ a l n (none x) h ea el en = clash h (x .absent)
 first-present S d _ a l n (one x) h ea el en = record { records = ea ∙ λ i. x .reply i ∷ el i; count = en }
 
-pub first-absent : (S : Session) (d : DepthStencilPart) (xs : List Attached) (a : List Attachment) (n : ℕ) → PartOf S d xs → d .present ≡ false → a ≡ padded 17 [] → n ≡ 0
+pub first-absent : (S : Session) (d : DepthStencilPart) (xs : List Attached) (a : List Attachment) (n : ℕ) → PartOf S d xs → d .present ≡ false → a ≡ padded maxAttachments [] → n ≡ 0
     → Holds a n (map (attachmentReply S) xs)
 first-absent S d _ a n (none x) h ea en = record { records = ea; count = en }
 first-absent S d _ a n (one x) h ea en = clash (x .present) h

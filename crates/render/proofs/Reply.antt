@@ -5,6 +5,7 @@ use mathlib.Core.Path.{_≡_, sym, ap, _∙_}
 use mathlib.Core.Bool.{Bool, true, false, cond}
 use mathlib.Core.List.{List, [], _∷_, _++_, map}
 use lib.ListN.{length, length-append}
+use Rattle.definition.specs.Sizes.{maxSlots, maxAttachments}
 use Rattle.definition.specs.Session.{Pass, Session, isNone}
 use Rattle.definition.specs.Attachments.{Attached, depthStencilPart, resolvePart, slotPart, slotParts, attachments}
 use Rattle.definition.specs.Pass.{attachmentReply, acceptance}
@@ -39,7 +40,7 @@ part-most : (S : Session) (p : Pass) → length (depthStencilPart S p) ≤ 1
 unfolding depthStencilPart
 part-most S p = optional (isNone (p .depthStencil)) _
 
-pub attachments-most : (S : Session) (p : Pass) → p .colors ≤ 8 → length (attachments S p) ≤ 17
+pub attachments-most : (S : Session) (p : Pass) → p .colors ≤ maxSlots → length (attachments S p) ≤ maxAttachments
 unfolding attachments
 attachments-most S p h = omega (arith, length-append (depthStencilPart S p) (slotParts S p (p .colors)), part-most S p, slots-most S p (p .colors))
 

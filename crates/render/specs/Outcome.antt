@@ -4,7 +4,7 @@ use mathlib.Core.Path.{_≡_}
 use mathlib.Core.Bool.{false}
 use mathlib.Core.List.{List, map}
 use lib.ListN.{length}
-use Rattle.definition.specs.Sizes.{maxDiscards, maxActions, maxClears}
+use Rattle.definition.specs.Sizes.{maxDiscards, maxActions, maxClears, actionNumbers, discardsNumbers, clearsNumbers, maxAttachments, maxAdded}
 use Rattle.definition.specs.Session.{Pass, Session}
 use Rattle.definition.specs.Verdict.{fine, isFine}
 use Rattle.definition.specs.Attachments.{Attached, divergentOf, attachAll, attachments}
@@ -17,16 +17,12 @@ use Rattle.render.specs.Records.{listed}
 use Rattle.render.specs.declared.PassReply.{PassReply}
 use Rattle.render.specs.declared.PassOutcome.{PassOutcome}
 
--- A pass adds at most 90 actions: one an attachment, one for each of at most 64 + 9 discards.
-abbrev pub maxAdded : ℕ
-maxAdded = 90
-
--- The lent lists are long enough for one pass more: 64 discards, 80 clears, and as many actions as there may be after it.
+-- The lent lists are long enough for one pass more: discards and clears with all their room, and as many actions as there may be after it.
 pub record PassRoom (n : Counts) (d a c : List ℕ) : Type 0 where
   pub held : n .discards ≤ maxDiscards
-  pub discards : 192 ≤ length d
-  pub actions : 6 * min maxActions (n .actions + maxAdded) ≤ length a
-  pub clears : 240 ≤ length c
+  pub discards : discardsNumbers ≤ length d
+  pub actions : actionNumbers * min maxActions (n .actions + maxAdded) ≤ length a
+  pub clears : clearsNumbers ≤ length c
 
 -- A reply of the definition as the struct that is handed back: its attachments in seventeen records, and how many clears it returns.
 abbrev pub replied : Reply → PassReply
@@ -65,7 +61,7 @@ acceptedOutcome S xs seen n = record { reply = acceptedReply S xs seen (n .clear
 
 -- Every attachment has a record, and the clears fit their list.
 pub record Whole (r : PassReply) : Type 0 where
-  pub attachments : r .attachments .count ≤ 17
+  pub attachments : r .attachments .count ≤ maxAttachments
   pub clears : r .clears ≤ maxClears
 
 -- What an accepted pass leaves: the definition's reply and lists; numbers past the lists' ends stay.

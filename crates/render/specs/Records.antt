@@ -2,6 +2,7 @@
 use Prim.Native.Nat.{ℕ, zero, suc}
 use mathlib.Core.List.{List, [], _∷_}
 use lib.ListN.{length}
+use Rattle.definition.specs.Sizes.{maxAttachments}
 use Rattle.definition.specs.declared.Attachment.{Attachment}
 use Rattle.attachments.specs.Attached.{blank}
 use Rattle.render.specs.declared.replies.Attachments.{Attachments}
@@ -13,4 +14,4 @@ padded (suc n) [] = blank ∷ padded n []
 padded (suc n) (x ∷ xs) = x ∷ padded n xs
 
 abbrev pub listed : List Attachment → Attachments
-listed xs = record { records = padded 17 xs; count = length xs }
+listed xs = record { records = padded maxAttachments xs; count = length xs }

@@ -29,6 +29,7 @@ use views::none_seen;
 ghost use mathlib.Core.Path.{_≡_};
 ghost use mathlib.Core.Bool.{true};
 ghost use Prim.Native.Nat.{_≤_};
+ghost use Rattle.definition.specs.Sizes.{maxSlots};
 ghost use Rattle.definition.specs.Session.{session};
 ghost use Rattle.definition.specs.Check.{check, viewSteps};
 ghost use Rattle.definition.specs.Verdict.{isFine};
@@ -61,7 +62,7 @@ pub struct PassOutcome {
 
 // 30 to 48: the depth-stencil view, then each slot, then the mask.
 fn view_steps(s: &[u8], pass: u32) -> Progress
-    requires { ⌜ session (now s) .pass pass .colors ≤ 8 ⌝ }
+    requires { ⌜ session (now s) .pass pass .colors ≤ maxSlots ⌝ }
     ensures { λ r. ⌜ r ≡ viewSteps (session (now (s .entry))) (session (now (s .entry)) .pass pass) ⌝ }
 {
     let n = session::colors(s, pass);
@@ -116,7 +117,7 @@ fn refusal(v: Verdict, n: Counts) -> PassOutcome
 
 // What an accepted pass replies, whose depth-stencil part is d: its divergent aspect is cleared after it.
 fn finish(s: &[u8], pass: u32, d: DepthStencilPart, seen: Seen, n: Counts) -> PassOutcome
-    requires { ⌜ PartOf (session (now s)) d (depthStencilPart (session (now s)) (session (now s) .pass pass)) × (session (now s) .pass pass .colors ≤ 8) ⌝ }
+    requires { ⌜ PartOf (session (now s)) d (depthStencilPart (session (now s)) (session (now s) .pass pass)) × (session (now s) .pass pass .colors ≤ maxSlots) ⌝ }
     ensures { λ r. ⌜ r ≡ acceptedOutcome (session (now (s .entry))) (At.attachments (session (now (s .entry))) (session (now (s .entry)) .pass pass)) seen n ⌝ }
 {
     let slots = session::colors(s, pass);
@@ -147,7 +148,7 @@ fn accept(
     clears: &mut [u32],
     n: Counts,
 ) -> PassOutcome
-    requires { ⌜ PartOf (session (now s)) d (depthStencilPart (session (now s)) (session (now s) .pass pass)) × PassRoom n (now discards) (now actions) (now clears) × (session (now s) .pass pass .colors ≤ 8) × (isFine (roomVerdict (At.attachments (session (now s)) (session (now s) .pass pass)) (newPass (held n (now discards) (now actions) (now clears)))) ≡ true) ⌝ }
+    requires { ⌜ PartOf (session (now s)) d (depthStencilPart (session (now s)) (session (now s) .pass pass)) × PassRoom n (now discards) (now actions) (now clears) × (session (now s) .pass pass .colors ≤ maxSlots) × (isFine (roomVerdict (At.attachments (session (now s)) (session (now s) .pass pass)) (newPass (held n (now discards) (now actions) (now clears)))) ≡ true) ⌝ }
     ensures { λ r. ⌜ Accepted (session (now (s .entry))) (At.attachments (session (now (s .entry))) (session (now (s .entry)) .pass pass)) seen n r (now (discards .entry)) (now (discards .exit)) (now (actions .entry)) (now (actions .exit)) (now (clears .entry)) (now (clears .exit)) ⌝ }
 {
     let cleared = Counts {

@@ -6,12 +6,14 @@ use attachments::empty_reply;
 use attachments::resolve_reply;
 use definition::Attachment;
 use definition::Slot;
+use definition::sizes::MAX_ATTACHMENTS;
 use session::derived::is_none;
 use session::slot;
 ghost use mathlib.Core.Path.{_≡_};
 ghost use mathlib.Core.Bool.{not, _&&_};
 ghost use mathlib.Core.List.{List, [], _++_, map};
 ghost use Prim.Native.Nat.{_≤_};
+ghost use Rattle.definition.specs.Sizes.{maxSlots};
 ghost use Rattle.definition.specs.Session.{session, isNone};
 ghost use Rattle.definition.specs.Attachments.{Attached, slotParts};
 ghost use Rattle.definition.specs.Pass.{attachmentReply};
@@ -21,7 +23,7 @@ ghost use Rattle.render.specs.Records.{listed};
 // The attachments of a reply: the first `count` records.
 #[repr(C)]
 pub struct Attachments {
-    pub records: [Attachment; 17],
+    pub records: [Attachment; MAX_ATTACHMENTS],
     pub count: u32,
 }
 
@@ -30,7 +32,7 @@ pub fn no_attachments() -> Attachments
     ensures { λ r. ⌜ r ≡ listed [] ⌝ }
 {
     Attachments {
-        records: [empty_reply(); 17],
+        records: [empty_reply(); MAX_ATTACHMENTS],
         count: 0,
     }
 }
@@ -51,10 +53,10 @@ fn resolves(c: Slot) -> bool
 
 // The depth-stencil attachment d, then each colour of the first n slots and its resolve target.
 pub fn render_attachments(s: &[u8], pass: u32, d: DepthStencilPart, n: u32) -> Attachments
-    requires { ⌜ n ≤ 8 ⌝ }
+    requires { ⌜ n ≤ maxSlots ⌝ }
     ensures { λ r. ⌜ ((xs : List Attached) → PartOf (session (now (s .entry))) d xs → r ≡ listed (map (attachmentReply (session (now (s .entry)))) (xs ++ slotParts (session (now (s .entry))) (session (now (s .entry)) .pass pass) n))) ⌝ }
 {
-    let mut records = [empty_reply(); 17];
+    let mut records = [empty_reply(); MAX_ATTACHMENTS];
     let mut count = 0u32;
     if d.present {
         let first = d.reply;

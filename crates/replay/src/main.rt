@@ -4,16 +4,16 @@ use answers::Place;
 use answers::numbers;
 use answers::reply;
 use answers::word;
+use definition::sizes::ACTIONS_BYTES;
+use definition::sizes::CLEARS_BYTES;
+use definition::sizes::DISCARDS_BYTES;
+use definition::sizes::MAX_SURFACES;
+use definition::sizes::ROWS_BYTES;
 use desk::deskcheck_pass;
 use desk::deskcheck_session;
 use desk::deskcheck_submit;
-use lent::state::ACTION_BYTES;
-use lent::state::CLEAR_BYTES;
-use lent::state::DISCARD_BYTES;
-use lent::state::STATUS_BYTES;
 use libc::STDIN_FILENO;
 use libc::STDOUT_FILENO;
-use rows::ROWS_BYTES;
 use session::ends;
 use session::header::pass_count;
 use session::header::texture_count;
@@ -85,10 +85,10 @@ fn passes(
     p: Place,
     session: &[u8],
     rows: &[u8],
-    discards: &mut [u8; DISCARD_BYTES],
-    actions: &mut [u8; ACTION_BYTES],
-    clears: &mut [u8; CLEAR_BYTES],
-    status: &mut [u8; STATUS_BYTES],
+    discards: &mut [u8; DISCARDS_BYTES],
+    actions: &mut [u8; ACTIONS_BYTES],
+    clears: &mut [u8; CLEARS_BYTES],
+    status: &mut [u8; MAX_SURFACES],
 ) -> Place {
     let count = pass_count(session);
     let mut q = p;
@@ -123,10 +123,10 @@ fn answer(list: &[u8], p: Place, session: &[u8]) -> Place {
     if number != 0 {
         return q;
     }
-    let mut discards = [0u8; DISCARD_BYTES];
-    let mut actions = [0u8; ACTION_BYTES];
-    let mut clears = [0u8; CLEAR_BYTES];
-    let mut status = [0u8; STATUS_BYTES];
+    let mut discards = [0u8; DISCARDS_BYTES];
+    let mut actions = [0u8; ACTIONS_BYTES];
+    let mut clears = [0u8; CLEARS_BYTES];
+    let mut status = [0u8; MAX_SURFACES];
     passes(
         list,
         q,

@@ -5,7 +5,7 @@ use mathlib.Core.Bool.{Bool, _&&_}
 use mathlib.Core.List.{List, [], _∷_, _++_, append-assoc, append-nil}
 use lib.Dec.{leb}
 use lib.ListN.{length}
-use Rattle.definition.specs.Sizes.{maxDiscards, maxActions}
+use Rattle.definition.specs.Sizes.{maxDiscards, maxActions, actionNumbers}
 use Rattle.definition.specs.Session.{Pass, Session}
 use Rattle.definition.specs.Verdict.{nowhere, _then_, unless}
 use Rattle.definition.specs.MemoryInit.{Lists, applyPlan}
@@ -32,7 +32,7 @@ tracks-own c copy h = record {
   fits = refl;
   small = h;
   discards = λ g. refl;
-  actions = λ g. subst (Counted (c .actions)) (sym (records-length 6 decodeAction (c .actions) [])) (counted-exact (c .actions));
+  actions = λ g. subst (Counted (c .actions)) (sym (records-length actionNumbers decodeAction (c .actions) [])) (counted-exact (c .actions));
 }
 
 module _ (c r : Course) (copy copy′ : List ℕ) (p : Planned)

@@ -7,7 +7,7 @@ use mathlib.Core.List.{List, [], _∷_, _++_, map}
 use mathlib.Core.Option.{Option, none, some}
 use lib.Dec.{leb}
 use lib.ListN.{length, length-append}
-use Rattle.definition.specs.Sizes.{maxDiscards, maxActions, maxClears}
+use Rattle.definition.specs.Sizes.{maxDiscards, maxActions, maxClears, actionNumbers}
 use Rattle.definition.specs.Verdict.{nowhere, _then_, unless}
 use Rattle.definition.specs.MemoryInit.{Lists, implicitAt, matching, registerInitAction, registered, discarded}
 use Rattle.definition.specs.Attachments.{Attached, rangeIn, kindOf, discards, attach, attachAll}
@@ -88,11 +88,11 @@ actions-grow = attach-grows (λ l. length (l .actions)) register-grows discard-g
 -- The lists have room in the lent lists, of which that of the actions has so many numbers.
 pub record Fit (space : ℕ) (l : Lists) : Type 0 where
   pub discards : length (l .discards) ≤ maxDiscards
-  pub actions : 6 * length (l .actions) ≤ space
+  pub actions : actionNumbers * length (l .actions) ≤ space
   pub clears : length (l .clears) ≤ maxClears
 
 -- The first attachments xs of a pass for whose discards and actions there is room, from lists with no clears. A pass lists at most nine discards, so that at most 73 clears are returned.
-pub fit-first : (space : ℕ) (xs ys : List Attached) (l : Lists) → discardsFit (xs ++ ys) l ≡ true → 6 * length (attachAll (xs ++ ys) l .actions) ≤ space → length (l .discards) ≤ maxDiscards
+pub fit-first : (space : ℕ) (xs ys : List Attached) (l : Lists) → discardsFit (xs ++ ys) l ≡ true → actionNumbers * length (attachAll (xs ++ ys) l .actions) ≤ space → length (l .discards) ≤ maxDiscards
     → length (l .clears) ≡ 0 → listedByAll (xs ++ ys) ≤ 9 → Fit space (attachAll xs l)
 fit-first space xs ys l d a h z n = record {
   discards = discards-fit xs l (and-left (discardsFit xs l) (discardsFit ys (attachAll xs l)) (sym (fit-append xs ys l) ∙ d)) h;

@@ -9,7 +9,7 @@ use lib.Dec.{leb}
 use lib.ListN.{length, take, getD, set, length-append, length-map}
 use lib.Seq.{take-suc, take-suc-set}
 use borrow.Author.Tests.{leb-true, leb-false, le-leb, lt-leb}
-use Rattle.definition.specs.Sizes.{maxDiscards, maxActions}
+use Rattle.definition.specs.Sizes.{maxDiscards, maxActions, surfaceNumbers, actionNumbers}
 use Rattle.definition.specs.Surfaces.{hits, firstOf}
 use Rattle.definition.specs.MemoryInit.{Lists, implicitAt, matching, others, registerInitAction, discarded}
 use Rattle.definition.specs.Pass.{newPass}
@@ -51,12 +51,12 @@ counted-fits a n c = go (leb a maxActions) refl
 
 -- ── a registration
 
-kept-count : (r : Range) (n kept : ℕ) (copy copy′ : List ℕ) → Retained 3 decodeSurface (λ s. not (hits r s)) n copy copy′ kept → kept ≡ length (others r (surfaces n copy))
-kept-count r n kept copy copy′ stay = sym (records-length 3 decodeSurface kept copy′) ∙ ap length (stay .first)
+kept-count : (r : Range) (n kept : ℕ) (copy copy′ : List ℕ) → Retained surfaceNumbers decodeSurface (λ s. not (hits r s)) n copy copy′ kept → kept ≡ length (others r (surfaces n copy))
+kept-count r n kept copy copy′ stay = sym (records-length surfaceNumbers decodeSurface kept copy′) ∙ ap length (stay .first)
 
-pub kept-most : (r : Range) (n kept : ℕ) (copy copy′ : List ℕ) → Retained 3 decodeSurface (λ s. not (hits r s)) n copy copy′ kept → kept ≤ n
+pub kept-most : (r : Range) (n kept : ℕ) (copy copy′ : List ℕ) → Retained surfaceNumbers decodeSurface (λ s. not (hits r s)) n copy copy′ kept → kept ≤ n
 kept-most r n kept copy copy′ stay =
-    omega (arith, kept-count r n kept copy copy′ stay, retain-most (λ s. not (hits r s)) (surfaces n copy), records-length 3 decodeSurface n copy)
+    omega (arith, kept-count r n kept copy copy′ stay, retain-most (λ s. not (hits r s)) (surfaces n copy), records-length surfaceNumbers decodeSurface n copy)
 
 register-discards : (r : Range) (k : MemoryInitKind) (l : Lists) → registerInitAction r k l .discards ≡ others r (l .discards)
 unfolding registerInitAction
@@ -71,14 +71,14 @@ register-actions r NeedsInitializedMemory l =
     ∙ omega (arith, length-map (matching r (l .discards)) implicitAt)
 
 pub tracks-register : (r : Range) (k : MemoryInitKind) (c : Course) (copy copy′ : List ℕ) (kept returned actions : ℕ) (ok : Bool) (l : Lists) → Tracks c copy ok l
-    → Retained 3 decodeSurface (λ s. not (hits r s)) (c .held) copy copy′ kept → returned ≡ returnedBy k (c .held - kept)
+    → Retained surfaceNumbers decodeSurface (λ s. not (hits r s)) (c .held) copy copy′ kept → returned ≡ returnedBy k (c .held - kept)
     → ((n : ℕ) → Counted (c .actions) n → Counted actions (n + (returned + 1))) → Tracks (courseAt kept actions (c .fits)) copy′ ok (registerInitAction r k l)
 tracks-register r k c copy copy′ kept returned actions ok l t stay e more = record {
   fits = t .fits;
   small = omega (arith, kept-most r (c .held) kept copy copy′ stay, t .small);
   discards = λ h. stay .first ∙ ap (others r) (t .discards h) ∙ sym (register-discards r k l);
   actions = λ h.
-      let all : length (l .discards) ≡ c .held = sym (ap length (t .discards h)) ∙ records-length 3 decodeSurface (c .held) copy in
+      let all : length (l .discards) ≡ c .held = sym (ap length (t .discards h)) ∙ records-length surfaceNumbers decodeSurface (c .held) copy in
       let those : kept ≡ length (others r (l .discards)) = kept-count r (c .held) kept copy copy′ stay ∙ ap (λ q. length (others r q)) (t .discards h) in
       let moved : c .held - kept ≡ length (matching r (l .discards)) = omega (arith, matching-others r (l .discards)) in
       subst (Counted actions) (ap (λ (q : ℕ). length (l .actions) + (q + 1)) (e ∙ ap (returnedBy k) moved) ∙ sym (register-actions r k l)) (more (length (l .actions)) (t .actions h));
@@ -88,7 +88,7 @@ tracks-register r k c copy copy′ kept returned actions ok l t stay e more = re
 
 module _ (c : Course) (copy : List ℕ) (ok : Bool) (l : Lists) (t : Tracks c copy ok l) where
   held-length : ok ≡ true → length (l .discards) ≡ c .held
-  held-length h = sym (ap length (t .discards h)) ∙ records-length 3 decodeSurface (c .held) copy
+  held-length h = sym (ap length (t .discards h)) ∙ records-length surfaceNumbers decodeSurface (c .held) copy
 
   listed-length : (r : Range) → ok ≡ true → length (discarded r true l .discards) ≡ c .held + 1
   listed-length r h = length-append (l .discards) (firstOf r ∷ []) ∙ ap (λ (q : ℕ). q + 1) (held-length h)
@@ -112,14 +112,14 @@ module _ (c : Course) (copy : List ℕ) (ok : Bool) (l : Lists) (t : Tracks c co
       fit-off _ false (λ h. lt-leb (length (discarded r true l .discards)) maxDiscards (omega (arith, listed-length r h))) ∙ and-false ok in
       record { fits = sym none; small = t .small; discards = λ h. clash h none; actions = λ h. clash h none }
 
-  pub tracks-discard : (r : Range) (s : Surface) (copy′ : List ℕ) (x : ℕ) → c .held < maxDiscards → s ≡ firstOf r → Appended 3 decodeSurface (c .held) (s ∷ []) copy copy′ x
+  pub tracks-discard : (r : Range) (s : Surface) (copy′ : List ℕ) (x : ℕ) → c .held < maxDiscards → s ≡ firstOf r → Appended surfaceNumbers decodeSurface (c .held) (s ∷ []) copy copy′ x
       → Tracks (courseAt x (c .actions) (c .fits)) copy′ (ok && leb (length (discarded r true l .discards)) maxDiscards) (discarded r true l)
   tracks-discard r s copy′ x room named listed =
       let fit : (ok && leb (length (discarded r true l .discards)) maxDiscards) ≡ ok =
       fit-off _ true (λ h. le-leb (length (discarded r true l .discards)) maxDiscards (omega (arith, listed-length r h))) ∙ and-true ok in
       record {
         fits = t .fits ∙ sym fit;
-        small = omega (arith, append-count 3 decodeSurface (c .held) x (s ∷ []) copy copy′ listed);
+        small = omega (arith, append-count surfaceNumbers decodeSurface (c .held) x (s ∷ []) copy copy′ listed);
         discards = λ h. listed .first ∙ λ q. t .discards (sym fit ∙ h) q ++ (named q ∷ []);
         actions = λ h. t .actions (sym fit ∙ h);
       }
@@ -147,11 +147,11 @@ copy-turn d copy i h g e =
     ∙ sym (ap (λ (q : ℕ). take q d) (add-one i) ∙ take-suc d i 0 h)
 
 -- A copy of the discards holds the same surfaces.
-pub tracks-begin : (n : Counts) (d copy : List ℕ) → n .discards ≤ maxDiscards → take (3 * n .discards) copy ≡ take (3 * n .discards) d
+pub tracks-begin : (n : Counts) (d copy : List ℕ) → n .discards ≤ maxDiscards → take (surfaceNumbers * n .discards) copy ≡ take (surfaceNumbers * n .discards) d
     → (a c : List ℕ) → Tracks (courseAt (n .discards) (n .actions) true) copy true (newPass (held n d a c))
 tracks-begin n d copy small e a c = record {
   fits = refl;
   small = small;
-  discards = λ h. records-same 3 decodeSurface (n .discards) d copy e;
-  actions = λ h. subst (Counted (n .actions)) (sym (records-length 6 decodeAction (n .actions) a)) (counted-exact (n .actions));
+  discards = λ h. records-same surfaceNumbers decodeSurface (n .discards) d copy e;
+  actions = λ h. subst (Counted (n .actions)) (sym (records-length actionNumbers decodeAction (n .actions) a)) (counted-exact (n .actions));
 }

@@ -2,6 +2,9 @@
 // It tells before any lent list is written whether every step has room for its discards, and the end for its actions.
 use definition::MemoryInitKind;
 use definition::Range;
+use definition::sizes::MAX_ACTIONS;
+use definition::sizes::MAX_DISCARDS;
+use definition::sizes::SURFACE_NUMBERS;
 use memory_init::Counts;
 use memory_init::InitKind;
 use memory_init::discard;
@@ -13,17 +16,11 @@ ghost use Prim.Native.Nat.{ℕ, _+_, _*_, _≤_};
 ghost use mathlib.Core.List.{List};
 ghost use lib.Dec.{leb};
 ghost use lib.ListN.{length};
-ghost use Rattle.definition.specs.Sizes.{maxDiscards};
+ghost use Rattle.definition.specs.Sizes.{maxDiscards, surfaceNumbers, discardsNumbers};
 ghost use Rattle.definition.specs.MemoryInit.{Lists, registerInitAction, registered, discarded, applyPlan};
 ghost use Rattle.definition.specs.Pass.{newPass};
 ghost use Rattle.memory_init.specs.Lent.{held, initKind};
 ghost use Rattle.room.specs.Course.{Counted, Tracks, returnedBy};
-
-// The room of the lent list of discards.
-const MAX_DISCARDS: usize = 64;
-
-// The room of the lent list of actions.
-pub const MAX_ACTIONS: usize = 512;
 
 // How many discards the copy holds, how many actions there would be, and whether every step so far has fitted.
 pub struct Course {
@@ -34,11 +31,11 @@ pub struct Course {
 
 // The course before a pass: the discards are copied.
 pub fn begin(discards: &[u32], n: Counts, copy: &mut [u32]) -> Course
-    requires { ⌜ (3 * n .discards ≤ length (now discards)) × ((3 * n .discards ≤ length (now copy)) × (n .discards ≤ maxDiscards)) ⌝ }
+    requires { ⌜ (surfaceNumbers * n .discards ≤ length (now discards)) × ((surfaceNumbers * n .discards ≤ length (now copy)) × (n .discards ≤ maxDiscards)) ⌝ }
     ensures { λ r. ⌜ ((a c : List ℕ) → Tracks r (now (copy .exit)) true (newPass (held n (now (discards .entry)) a c))) ⌝ }
 {
     let count = n.discards;
-    let end = 3 * count;
+    let end = SURFACE_NUMBERS * count;
     let mut i: usize = 0;
     while i < end {
         copy[i] = discards[i];
@@ -74,7 +71,7 @@ fn returned_by(kind: MemoryInitKind, n: usize) -> usize
 
 // A registration.
 fn follow_init_action(copy: &mut [u32], c: Course, range: Range, kind: MemoryInitKind) -> Course
-    requires { ⌜ (192 ≤ length (now copy)) × (c .held ≤ maxDiscards) ⌝ }
+    requires { ⌜ (discardsNumbers ≤ length (now copy)) × (c .held ≤ maxDiscards) ⌝ }
     ensures { λ r. ⌜ ((ok : Bool) (l : Lists) → Tracks c (now (copy .entry)) ok l → Tracks r (now (copy .exit)) ok (registerInitAction range kind l)) × (r .held ≤ maxDiscards) ⌝ }
 {
     let kept = retain_others(copy, c.held, range);
@@ -89,7 +86,7 @@ fn follow_init_action(copy: &mut [u32], c: Course, range: Range, kind: MemoryIni
 
 // A registration or none.
 fn follow_register(copy: &mut [u32], c: Course, range: Range, kind: InitKind) -> Course
-    requires { ⌜ (192 ≤ length (now copy)) × (c .held ≤ maxDiscards) ⌝ }
+    requires { ⌜ (discardsNumbers ≤ length (now copy)) × (c .held ≤ maxDiscards) ⌝ }
     ensures { λ r. ⌜ ((ok : Bool) (l : Lists) → Tracks c (now (copy .entry)) ok l → Tracks r (now (copy .exit)) ok (registered range (initKind kind) l)) × (r .held ≤ maxDiscards) ⌝ }
 {
     let InitKind::Some(k) = kind else {
@@ -100,7 +97,7 @@ fn follow_register(copy: &mut [u32], c: Course, range: Range, kind: InitKind) ->
 
 // A discard: it needs a place.
 fn follow_discard(copy: &mut [u32], c: Course, range: Range) -> Course
-    requires { ⌜ (192 ≤ length (now copy)) × (c .held ≤ maxDiscards) ⌝ }
+    requires { ⌜ (discardsNumbers ≤ length (now copy)) × (c .held ≤ maxDiscards) ⌝ }
     ensures { λ r. ⌜ ((ok : Bool) (l : Lists) → Tracks c (now (copy .entry)) ok l → Tracks r (now (copy .exit)) (ok && leb (length (discarded range true l .discards)) maxDiscards) (discarded range true l)) ⌝ }
 {
     let count = c.held;
@@ -121,7 +118,7 @@ fn follow_discard(copy: &mut [u32], c: Course, range: Range) -> Course
 
 // An attachment: a registration or none, then a discard or none. Once a step has not fitted, nothing is followed.
 pub fn follow(copy: &mut [u32], c: Course, range: Range, kind: InitKind, discarding: bool) -> Course
-    requires { ⌜ (192 ≤ length (now copy)) × (c .held ≤ maxDiscards) ⌝ }
+    requires { ⌜ (discardsNumbers ≤ length (now copy)) × (c .held ≤ maxDiscards) ⌝ }
     ensures { λ r. ⌜ ((ok : Bool) (l : Lists) → Tracks c (now (copy .entry)) ok l → Tracks r (now (copy .exit)) (ok && leb (length (applyPlan range (initKind kind) discarding l .discards)) maxDiscards) (applyPlan range (initKind kind) discarding l)) ⌝ }
 {
     if !c.fits {

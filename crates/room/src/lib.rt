@@ -7,11 +7,12 @@ use attachments::Planned;
 use attachments::color_planned;
 use attachments::resolve_planned;
 use course::Course;
-use course::MAX_ACTIONS;
 use course::begin;
 use course::follow;
 use definition::Slot;
 use definition::Verdict;
+use definition::sizes::DISCARDS_NUMBERS;
+use definition::sizes::MAX_ACTIONS;
 use definition::verdicts::NOWHERE;
 use definition::verdicts::then;
 use definition::verdicts::unless;
@@ -23,7 +24,7 @@ ghost use mathlib.Core.Path.{_≡_};
 ghost use mathlib.Core.List.{List, _∷_, []};
 ghost use Prim.Native.Nat.{ℕ, _≤_};
 ghost use lib.ListN.{length};
-ghost use Rattle.definition.specs.Sizes.{maxDiscards};
+ghost use Rattle.definition.specs.Sizes.{maxDiscards, discardsNumbers};
 ghost use Rattle.definition.specs.Session.{Session, session};
 ghost use Rattle.definition.specs.Attachments.{Attached, depthStencilPart, slotPart, slotParts, attachments};
 ghost use Rattle.definition.specs.Pass.{newPass, roomVerdict};
@@ -33,7 +34,7 @@ ghost use Rattle.room.specs.Going.{Goes};
 
 // An attachment after the course so far.
 fn follow_planned(copy: &mut [u32], course: Course, a: Planned) -> Course
-    requires { ⌜ (192 ≤ length (now copy)) × (course .held ≤ maxDiscards) ⌝ }
+    requires { ⌜ (discardsNumbers ≤ length (now copy)) × (course .held ≤ maxDiscards) ⌝ }
     ensures { λ r. ⌜ ((x : Attached) → PlannedAs a x → Goes (x ∷ []) course (now (copy .entry)) r (now (copy .exit))) × (r .held ≤ maxDiscards) ⌝ }
 {
     let range = a.range;
@@ -43,7 +44,7 @@ fn follow_planned(copy: &mut [u32], course: Course, a: Planned) -> Course
 
 // The depth-stencil attachment, if there is one.
 fn follow_depth_stencil(copy: &mut [u32], course: Course, d: DepthStencilPart) -> Course
-    requires { ⌜ (192 ≤ length (now copy)) × (course .held ≤ maxDiscards) ⌝ }
+    requires { ⌜ (discardsNumbers ≤ length (now copy)) × (course .held ≤ maxDiscards) ⌝ }
     ensures { λ r. ⌜ ((S : Session) (xs : List Attached) → PartOf S d xs → Goes xs course (now (copy .entry)) r (now (copy .exit))) × (r .held ≤ maxDiscards) ⌝ }
 {
     if !d.present {
@@ -55,7 +56,7 @@ fn follow_depth_stencil(copy: &mut [u32], course: Course, d: DepthStencilPart) -
 
 // A colour slot: its colour and its resolve target.
 fn follow_slot(s: &[u8], c: Slot, copy: &mut [u32], course: Course) -> Course
-    requires { ⌜ (192 ≤ length (now copy)) × (course .held ≤ maxDiscards) ⌝ }
+    requires { ⌜ (discardsNumbers ≤ length (now copy)) × (course .held ≤ maxDiscards) ⌝ }
     ensures { λ r. ⌜ Goes (slotPart (session (now (s .entry))) c) course (now (copy .entry)) r (now (copy .exit)) ⌝ }
 {
     if is_none(c.view) {
@@ -70,7 +71,7 @@ fn follow_slot(s: &[u8], c: Slot, copy: &mut [u32], course: Course) -> Course
 
 // The first n slots.
 fn follow_slots(s: &[u8], pass: u32, n: u32, copy: &mut [u32], course: Course) -> Course
-    requires { ⌜ (192 ≤ length (now copy)) × (course .held ≤ maxDiscards) ⌝ }
+    requires { ⌜ (discardsNumbers ≤ length (now copy)) × (course .held ≤ maxDiscards) ⌝ }
     ensures { λ r. ⌜ Goes (slotParts (session (now (s .entry))) (session (now (s .entry)) .pass pass) n) course (now (copy .entry)) r (now (copy .exit)) ⌝ }
 {
     let mut after = course;
@@ -90,10 +91,10 @@ pub fn room_verdict(
     discards: &[u32],
     n: Counts,
 ) -> Verdict
-    requires { ⌜ PartOf (session (now s)) d (depthStencilPart (session (now s)) (session (now s) .pass pass)) × (192 ≤ length (now discards)) × (n .discards ≤ maxDiscards) ⌝ }
+    requires { ⌜ PartOf (session (now s)) d (depthStencilPart (session (now s)) (session (now s) .pass pass)) × (discardsNumbers ≤ length (now discards)) × (n .discards ≤ maxDiscards) ⌝ }
     ensures { λ r. ⌜ ((a c : List ℕ) → r ≡ roomVerdict (attachments (session (now (s .entry))) (session (now (s .entry)) .pass pass)) (newPass (held n (now (discards .entry)) a c))) ⌝ }
 {
-    let mut copy = [0u32; 192];
+    let mut copy = [0u32; DISCARDS_NUMBERS];
     let begun = begin(discards, n, &mut copy);
     let first = follow_depth_stencil(&mut copy, begun, d);
     let end = follow_slots(s, pass, colors(s, pass), &mut copy, first);

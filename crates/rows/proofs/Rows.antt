@@ -8,6 +8,7 @@ use mathlib.Core.List.{List, [], _∷_, _++_, append-nil, append-assoc}
 use lib.Dec.{eqb}
 use lib.ListN.{length, drop}
 use borrow.Author.Tests.{eq-eqb, ne-eqb}
+use Rattle.definition.specs.Sizes.{surfaceNumbers, rowNumbers, rowBytes}
 use Rattle.definition.specs.Session.{Session}
 use Rattle.definition.specs.MemoryInit.{Lists}
 use Rattle.definition.specs.Pass.{Outcome, checkPass}
@@ -24,7 +25,7 @@ use Rattle.lent.specs.Numbers.{numbersAt, putNumbers}
 use Rattle.lent.proofs.Numbers.{numbers-kept, numbers-past}
 use Rattle.render.specs.declared.PassOutcome.{PassOutcome}
 use Rattle.render.specs.Outcome.{Checked}
-use Rattle.rows.specs.Rows.{rowNumbers, rowBytes, rowsIn, rowOf, Next, Judged}
+use Rattle.rows.specs.Rows.{rowsIn, rowOf, Next, Judged}
 
 -- ── the end of a buffer
 
@@ -62,7 +63,7 @@ row-line : (S : Session) (k : ℕ) (n : Counts) (o : PassOutcome) (d d′ a a′
     → rowOf k (o .reply) (o .counts .discards) ≡ line k (checkPass S (S .pass k) (held n d a c))
 row-line S k n o d d′ a a′ c c′ g =
     let counted : o .counts .discards ≡ length (checkPass S (S .pass k) (held n d a c) .lists .discards) =
-    sym (records-length 3 decodeSurface (o .counts .discards) d′) ∙ ap (λ (l : Lists). length (l .discards)) (g .lists) in
+    sym (records-length surfaceNumbers decodeSurface (o .counts .discards) d′) ∙ ap (λ (l : Lists). length (l .discards)) (g .lists) in
     λ q. rowOf k (g .reply q) (counted q)
 
 module _ (S : Session) (k passes : ℕ) (n : Counts) (o : PassOutcome) (r : Counts) (b b′ d d′ a a′ c c′ : List ℕ) where

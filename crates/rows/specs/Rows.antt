@@ -2,6 +2,7 @@
 use Prim.Native.Nat.{ℕ, zero, suc, _+_, _*_}
 use mathlib.Core.Path.{_≡_}
 use mathlib.Core.List.{List, [], _∷_, _++_}
+use Rattle.definition.specs.Sizes.{rowNumbers, rowBytes}
 use Rattle.definition.specs.Session.{Session}
 use Rattle.definition.specs.Pass.{checkPass}
 use Rattle.definition.specs.Program.{line, nextLists}
@@ -9,13 +10,6 @@ use Rattle.memory_init.specs.declared.Counts.{Counts}
 use Rattle.memory_init.specs.Lent.{held, Within}
 use Rattle.lent.specs.Numbers.{numbersAt, putNumbers}
 use Rattle.render.specs.declared.PassReply.{PassReply}
-
--- Numbers and bytes of a row.
-abbrev pub rowNumbers : ℕ
-rowNumbers = 9
-
-abbrev pub rowBytes : ℕ
-rowBytes = 4 * rowNumbers
 
 -- The first n rows.
 unfoldable pub rowsIn : List ℕ → ℕ → List (List ℕ)

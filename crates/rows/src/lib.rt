@@ -1,5 +1,10 @@
 // The whole session in one walk: every pass judged from fresh lists, a submission's effect on the lists at each buffer's end, and a row
 // of nine numbers a pass: pass, refusal, place, earlier place, width, height, samples, clears returned, length of the discard list.
+use definition::sizes::ACTIONS_NUMBERS;
+use definition::sizes::CLEARS_NUMBERS;
+use definition::sizes::DISCARDS_NUMBERS;
+use definition::sizes::ROW_BYTES;
+use definition::sizes::ROW_NUMBERS;
 use lent::write_numbers;
 use memory_init::Counts;
 use render::PassReply;
@@ -9,7 +14,7 @@ use session::header::pass_count;
 ghost use mathlib.Core.Path.{_≡_};
 ghost use Prim.Native.Nat.{_+_, _*_, _≤_, _<_};
 ghost use lib.ListN.{length, drop};
-ghost use Rattle.definition.specs.Sizes.{maxPasses, maxDiscards, maxClears};
+ghost use Rattle.definition.specs.Sizes.{maxPasses, maxDiscards, maxClears, discardsNumbers, actionsNumbers, clearsNumbers, rowNumbers, rowBytes};
 ghost use Rattle.definition.specs.Session.{session};
 ghost use Rattle.definition.specs.Readable.{sessionRefusal};
 ghost use Rattle.definition.specs.Calls.{noEntries};
@@ -17,16 +22,7 @@ ghost use Rattle.definition.specs.Program.{lines};
 ghost use Rattle.memory_init.specs.Lent.{Within};
 ghost use Rattle.lent.specs.Numbers.{numbersAt, putNumbers};
 ghost use Rattle.render.specs.Outcome.{PassRoom};
-ghost use Rattle.rows.specs.Rows.{rowNumbers, rowBytes, rowsIn, rowOf, Next, Judged};
-
-// Numbers of a row.
-pub const ROW_NUMBERS: usize = 9;
-
-// Bytes of a row.
-pub const ROW_BYTES: usize = 4 * ROW_NUMBERS;
-
-// Bytes that the rows of every session fit in.
-pub const ROWS_BYTES: usize = 100 * ROW_BYTES;
+ghost use Rattle.rows.specs.Rows.{rowsIn, rowOf, Next, Judged};
 
 // The row of pass k.
 fn put_row(rows: &mut [u8], k: u32, r: PassReply, discards: usize)
@@ -87,7 +83,7 @@ fn put_pass(
 
 // The rows of so many passes, from lists without entries.
 fn put_rows(s: &[u8], passes: u32, rows: &mut [u8], d: &mut [u32], a: &mut [u32], c: &mut [u32])
-    requires { ⌜ (rowBytes * passes ≤ length (now rows)) × ((192 ≤ length (now d)) × ((3072 ≤ length (now a)) × (240 ≤ length (now c)))) ⌝ }
+    requires { ⌜ (rowBytes * passes ≤ length (now rows)) × ((discardsNumbers ≤ length (now d)) × ((actionsNumbers ≤ length (now a)) × (clearsNumbers ≤ length (now c)))) ⌝ }
     ensures { λ _. ⌜ rowsIn (now (rows .exit)) passes ≡ lines (session (now (s .entry))) 0 passes noEntries ⌝ }
     ensures { λ _. ⌜ drop (rowBytes * passes) (now (rows .exit)) ≡ drop (rowBytes * passes) (now (rows .entry)) ⌝ }
 {
@@ -109,8 +105,8 @@ pub fn session_rows(s: &[u8], rows: &mut [u8])
     ensures { λ _. ⌜ rowsIn (now (rows .exit)) (session (now (s .entry)) .passCount) ≡ lines (session (now (s .entry))) 0 (session (now (s .entry)) .passCount) noEntries ⌝ }
     ensures { λ _. ⌜ drop (rowBytes * session (now (s .entry)) .passCount) (now (rows .exit)) ≡ drop (rowBytes * session (now (s .entry)) .passCount) (now (rows .entry)) ⌝ }
 {
-    let mut d: [u32; 192] = [0; 192];
-    let mut a: [u32; 3072] = [0; 3072];
-    let mut c: [u32; 240] = [0; 240];
+    let mut d: [u32; DISCARDS_NUMBERS] = [0; DISCARDS_NUMBERS];
+    let mut a: [u32; ACTIONS_NUMBERS] = [0; ACTIONS_NUMBERS];
+    let mut c: [u32; CLEARS_NUMBERS] = [0; CLEARS_NUMBERS];
     put_rows(s, pass_count(s), rows, &mut d, &mut a, &mut c);
 }

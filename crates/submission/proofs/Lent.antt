@@ -5,7 +5,7 @@ use mathlib.Core.Path.{_≡_, sym, ap, _∙_}
 use mathlib.Core.Bool.{true, _&&_}
 use mathlib.Core.List.{List}
 use lib.ListN.{length}
-use Rattle.definition.specs.Sizes.{maxTextures, maxSurfaces}
+use Rattle.definition.specs.Sizes.{maxTextures, maxSurfaces, surfaceNumbers, actionNumbers}
 use Rattle.definition.specs.Session.{Session, surfaceCount}
 use Rattle.definition.specs.Calls.{State, surfacesRight, actionsRight, bytesRight, countsRight, lentRight}
 use Rattle.laws.proofs.Tests.{and-left, and-right}
@@ -15,7 +15,7 @@ use Rattle.submission.specs.Runs.{Submits}
 
 -- The numbers d and a hold the discards and actions of what is right.
 pub right-submits : (S : Session) (σ : State) (n : Counts) (d a b : List ℕ) → lentRight S σ ≡ true → σ .lists .discards ≡ surfaces (n .discards) d → σ .lists .actions ≡ actions (n .actions) a
-    → S .textureCount ≤ maxTextures → surfaceCount S ≤ maxSurfaces → maxSurfaces ≤ length b → 3 * n .discards ≤ length d → 6 * n .actions ≤ length a → Submits S n d a b
+    → S .textureCount ≤ maxTextures → surfaceCount S ≤ maxSurfaces → maxSurfaces ≤ length b → surfaceNumbers * n .discards ≤ length d → actionNumbers * n .actions ≤ length a → Submits S n d a b
 unfolding lentRight
 right-submits S σ n d a b ok ed ea textures few status discards actions =
     let counts = countsRight (σ .lists) in

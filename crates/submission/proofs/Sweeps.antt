@@ -10,8 +10,8 @@ use lib.Dec.{leb, ltb, eqb}
 use lib.ListN.{length, getD, set, take}
 use lib.Seq.{take-all, length-take-le}
 use borrow.Author.Tests.{leb-true, ltb-true, eqb-true, eqb-false, le-leb, lt-ltb}
+use Rattle.definition.specs.Sizes.{maxSurfaces, surfaceNumbers, actionNumbers}
 use Rattle.definition.specs.Surfaces.{surfaceAt, rangeAt, firstOf, same, within, hits}
-use Rattle.definition.specs.Sizes.{maxSurfaces}
 use Rattle.definition.specs.Session.{Session, arrayLayers, surfaceCount, surfaceIndex, surfacesOf}
 use Rattle.definition.specs.Status.{restart, actByte, emptyByte}
 use Rattle.definition.specs.Submission.{submitBytes}
@@ -170,7 +170,7 @@ action-further S l i r k bytes₀ bytes bytes′ er ek e e′ =
     e′
     ∙ (λ q. sweep (actAt (actionOf (er q) (ek q))) (surfacesOf S) (e q))
     ∙ sym (sweeps-append (actions i l) (actionIn i l ∷ []) (surfacesOf S) bytes₀)
-    ∙ ap (λ a. sweepActs a (surfacesOf S) bytes₀) (sym (records-suc 6 decodeAction i l) ∙ ap (λ (q : ℕ). actions q l) (sym (add-one i)))
+    ∙ ap (λ a. sweepActs a (surfacesOf S) bytes₀) (sym (records-suc actionNumbers decodeAction i l) ∙ ap (λ (q : ℕ). actions q l) (sym (add-one i)))
 
 -- One discard more.
 pub discard-further : (S : Session) (l : List ℕ) (i at b : ℕ) (s : Surface) (bytes₀ bytes : List ℕ) → s ≡ surfaceIn i l → Inside S s → surfaceCount S ≤ length bytes₀
@@ -182,7 +182,7 @@ discard-further S l i at b s bytes₀ bytes es ok room e ea eb =
     ∙ sym (sweep-only S emptyByte s ok so-far (omega (arith, sweep-length (emptyAt (surfaces i l)) (surfacesOf S) bytes₀)))
     ∙ sweep-same (λ t c. cond (same t s) (emptyByte c) c) (emptyAt (s ∷ [])) (λ t c. ap (λ q. cond q (emptyByte c) c) (sym (or-false (same t s)))) (surfacesOf S) so-far
     ∙ empties-append (surfaces i l) (s ∷ []) (surfacesOf S) bytes₀
-    ∙ ap (λ d. sweep (emptyAt d) (surfacesOf S) bytes₀) (ap (λ x. surfaces i l ++ (x ∷ [])) es ∙ sym (records-suc 3 decodeSurface i l) ∙ ap (λ (q : ℕ). surfaces q l) (sym (add-one i)))
+    ∙ ap (λ d. sweep (emptyAt d) (surfacesOf S) bytes₀) (ap (λ x. surfaces i l ++ (x ∷ [])) es ∙ sym (records-suc surfaceNumbers decodeSurface i l) ∙ ap (λ (q : ℕ). surfaces q l) (sym (add-one i)))
   where
     so-far : List ℕ
     so-far = sweep (emptyAt (surfaces i l)) (surfacesOf S) bytes₀

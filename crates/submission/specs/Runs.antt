@@ -4,7 +4,7 @@ use mathlib.Core.Path.{_≡_}
 use mathlib.Core.Bool.{true}
 use mathlib.Core.List.{List}
 use lib.ListN.{length, getD, set}
-use Rattle.definition.specs.Sizes.{maxTextures, maxSurfaces}
+use Rattle.definition.specs.Sizes.{maxTextures, maxSurfaces, surfaceNumbers, actionNumbers}
 use Rattle.definition.specs.Session.{Session, surfacesBefore, surfaceCount}
 use Rattle.definition.specs.Calls.{surfacesRight, actionsRight}
 use Rattle.records.specs.Lent as lent
@@ -30,7 +30,7 @@ pub record Submits (S : Session) (n : Counts) (d a b : List ℕ) : Type 0 where
   pub textures : S .textureCount ≤ maxTextures
   pub surfaces : surfaceCount S ≤ maxSurfaces
   pub status : surfaceCount S ≤ length b
-  pub discards-long : 3 * n .discards ≤ length d
-  pub actions-long : 6 * n .actions ≤ length a
+  pub discards-long : surfaceNumbers * n .discards ≤ length d
+  pub actions-long : actionNumbers * n .actions ≤ length a
   pub discards : surfacesRight S (lent.surfaces (n .discards) d) ≡ true
   pub actions : actionsRight S (lent.actions (n .actions) a) ≡ true

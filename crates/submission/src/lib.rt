@@ -3,6 +3,7 @@
 use definition::MemoryInitKind;
 use definition::Range;
 use definition::Surface;
+use definition::sizes::MAX_TEXTURES;
 use memory_init::Counts;
 use records::first_of;
 use records::kind_at;
@@ -15,7 +16,7 @@ use session::texture;
 ghost use mathlib.Core.Path.{_≡_};
 ghost use Prim.Native.Nat.{ℕ, _+_, _*_, _≤_, _<_};
 ghost use lib.ListN.{length};
-ghost use Rattle.definition.specs.Sizes.{maxSurfaces};
+ghost use Rattle.definition.specs.Sizes.{maxSurfaces, surfaceNumbers, actionNumbers};
 ghost use Rattle.definition.specs.Session.{session, surfaceCount, surfaceIndex, surfacesOf};
 ghost use Rattle.definition.specs.Status as Status;
 ghost use Rattle.definition.specs.Submission.{submitBytes};
@@ -162,7 +163,7 @@ fn act(s: &[u8], bases: &[usize], status: &mut [u8], range: Range, kind: MemoryI
 
 // The first n actions, in order.
 fn run_actions(s: &[u8], bases: &[usize], status: &mut [u8], l: &[u32], n: usize)
-    requires { ⌜ Bases (session (now s)) (now bases) × ((actionsRight (session (now s)) (Lent.actions n (now l)) ≡ true) × ((6 * n ≤ length (now l)) × ((surfaceCount (session (now s)) ≤ maxSurfaces) × (surfaceCount (session (now s)) ≤ length (now status))))) ⌝ }
+    requires { ⌜ Bases (session (now s)) (now bases) × ((actionsRight (session (now s)) (Lent.actions n (now l)) ≡ true) × ((actionNumbers * n ≤ length (now l)) × ((surfaceCount (session (now s)) ≤ maxSurfaces) × (surfaceCount (session (now s)) ≤ length (now status))))) ⌝ }
     ensures { λ _. ⌜ now (status .exit) ≡ sweepActs (Lent.actions n (now (l .entry))) (surfacesOf (session (now (s .entry)))) (now (status .entry)) ⌝ }
 {
     let mut i: usize = 0;
@@ -174,7 +175,7 @@ fn run_actions(s: &[u8], bases: &[usize], status: &mut [u8], l: &[u32], n: usize
 
 // The first n discards mark empty.
 fn run_discards(s: &[u8], bases: &[usize], status: &mut [u8], l: &[u32], n: usize)
-    requires { ⌜ Bases (session (now s)) (now bases) × ((surfacesRight (session (now s)) (surfaces n (now l)) ≡ true) × ((3 * n ≤ length (now l)) × ((surfaceCount (session (now s)) ≤ maxSurfaces) × (surfaceCount (session (now s)) ≤ length (now status))))) ⌝ }
+    requires { ⌜ Bases (session (now s)) (now bases) × ((surfacesRight (session (now s)) (surfaces n (now l)) ≡ true) × ((surfaceNumbers * n ≤ length (now l)) × ((surfaceCount (session (now s)) ≤ maxSurfaces) × (surfaceCount (session (now s)) ≤ length (now status))))) ⌝ }
     ensures { λ _. ⌜ now (status .exit) ≡ sweep (emptyAt (surfaces n (now (l .entry)))) (surfacesOf (session (now (s .entry)))) (now (status .entry)) ⌝ }
 {
     let mut i: usize = 0;
@@ -190,7 +191,7 @@ pub fn submit(s: &[u8], discards: &[u32], actions: &[u32], n: Counts, status: &m
     requires { ⌜ Submits (session (now s)) n (now discards) (now actions) (now status) ⌝ }
     ensures { λ r. ⌜ (now (status .exit) ≡ submitBytes (Lent.actions (n .actions) (now (actions .entry))) (Lent.surfaces (n .discards) (now (discards .entry))) (surfacesOf (session (now (s .entry)))) (now (status .entry))) × (r ≡ record { discards = 0; actions = 0; clears = n .clears }) ⌝ }
 {
-    let mut bases: [usize; 64] = [0; 64];
+    let mut bases: [usize; MAX_TEXTURES as usize] = [0; MAX_TEXTURES as usize];
     let count = texture_bases(s, &mut bases);
     restart_bytes(status, count);
     run_actions(s, &bases, status, actions, n.actions);

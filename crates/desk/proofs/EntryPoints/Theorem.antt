@@ -8,9 +8,9 @@ use mathlib.Core.List.{List, [], _∷_}
 use lib.Dec.{eqb, ltb}
 use lib.ListN.{length, take, length-map}
 use lib.Seq.{take-all}
+use Rattle.definition.specs.Sizes.{maxSurfaces, surfaceNumbers, actionNumbers, discardsBytes, actionsBytes, clearsBytes, maxAttachments}
 use Rattle.definition.specs.Session.{Session, Pass, session}
 use Rattle.definition.specs.Readable.{sessionRefusal}
-use Rattle.definition.specs.Sizes.{maxSurfaces}
 use Rattle.definition.specs.Status.{filled}
 use Rattle.definition.specs.Verdict.{isFine, nowhere, refusedAt}
 use Rattle.definition.specs.Check.{check}
@@ -23,7 +23,7 @@ use Rattle.laws.proofs.Verdicts.{then-left}
 use Rattle.laws.specs.Records.{records}
 use Rattle.records.specs.Lent.{surfaces, actions}
 use Rattle.lent.specs.Numbers.{numbersAt}
-use Rattle.lent.specs.State.{discardBytes, actionBytes, clearBytes, short}
+use Rattle.lent.specs.State.{short}
 use Rattle.render.proofs.Records.{take-padded}
 use Rattle.render.proofs.Outcome.{few-colors, outcome-refused, outcome-accepted}
 use Rattle.render.proofs.Reply.{attachments-most}
@@ -41,7 +41,7 @@ use Rattle.desk.specs.EntryPoints.Theorem.{DemandThreeOfCalls, NeverSixO
 
 -- A reply fits its seventeen records, and its clears are the first of the list of clears after it.
 record Legible (r : Reply) (l : Lists) : Type 0 where
-  few : length (r .attachments) ≤ 17
+  few : length (r .attachments) ≤ maxAttachments
   clears : take (length (r .clears)) (l .clears) ≡ r .clears
 
 legible-refused : (r : Reply) (l : Lists) → r .attachments ≡ [] → r .clears ≡ [] → Legible r l
@@ -75,7 +75,7 @@ reads i r l b h e = λ q. checked (record {
   samples = r .samples;
   depthReadOnly = flag-read (r .depthReadOnly) q;
   stencilReadOnly = flag-read (r .stencilReadOnly) q;
-  attachments = take-padded 17 (r .attachments) (h .few) q;
+  attachments = take-padded maxAttachments (r .attachments) (h .few) q;
   divergent = r .divergent;
   clears = (ap (λ (m : Lists). take (length (r .clears)) (m .clears)) e ∙ h .clears) q;
 })
@@ -120,7 +120,7 @@ Long b = short (b .discards) (b .actions) (b .clears) (b .status) ≡ false
 long-after : (s : List ℕ) (b : Buffers) (t : Turn) → Promised s b t → Long b → Long (t .left)
 unfolding short
 long-after s b t p h =
-    (λ q. ltb (p .discards q) discardBytes || ltb (p .actions q) actionBytes || ltb (p .clears q) clearBytes || ltb (p .status q) maxSurfaces) ∙ h
+    (λ q. ltb (p .discards q) discardsBytes || ltb (p .actions q) actionsBytes || ltb (p .clears q) clearsBytes || ltb (p .status q) maxSurfaces) ∙ h
 
 -- A run follows the definition's calls.
 record Follows (s : List ℕ) (b : Buffers) (ts : List Turn) (σ : State) : Type 0 where
@@ -176,9 +176,9 @@ fresh-held : (b : Buffers) → Fresh b → heldIn b ≡ fresh
 unfolding records
 fresh-held b h = λ q. record {
   lists = record {
-    discards = ap (λ (n : ℕ). surfaces n (numbersAt (b .discards) 4 (3 * n))) (h .discards) q;
-    actions = ap (λ (n : ℕ). actions n (numbersAt (b .actions) 4 (6 * n))) (h .actions) q;
-    clears = ap (λ (n : ℕ). surfaces n (numbersAt (b .clears) 4 (3 * n))) (h .clears) q;
+    discards = ap (λ (n : ℕ). surfaces n (numbersAt (b .discards) 4 (surfaceNumbers * n))) (h .discards) q;
+    actions = ap (λ (n : ℕ). actions n (numbersAt (b .actions) 4 (actionNumbers * n))) (h .actions) q;
+    clears = ap (λ (n : ℕ). surfaces n (numbersAt (b .clears) 4 (surfaceNumbers * n))) (h .clears) q;
   };
   status = h .status q;
 }

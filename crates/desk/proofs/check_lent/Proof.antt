@@ -4,10 +4,10 @@ use native.Mathlib.Omega.{arith}
 use Prim.Native.Nat.{_≤_}
 use borrow.Author.Needs.{needs}
 use borrow.Author.Tests.{not-true, not-false}
+use Rattle.definition.specs.Sizes.{surfaceNumbers, maxAdded}
 use Rattle.records.specs.Lent.{decodeSurface}
 use Rattle.memory_init.specs.declared.Counts.{Counts}
 use Rattle.lent.proofs.Packing.{unpacked-all}
-use Rattle.render.specs.Outcome.{maxAdded}
 use Rattle.desk.proofs.Passed.{added-few, passed-refused, passed-full, passed-accepted}
 use Rattle.desk.proofs.check_lent.Statement.{statement}
 use Rattle.desk.proofs.check_lent.Tie as tie
@@ -53,7 +53,7 @@ same-length c = search needs
 returns : tie.Need-returns
 returns c =
     let k = c .before .before .before .before .before .before in
-    λ b h. passed-refused _ _ _ _ _ b _ (start k .args .n) (k .check-pass .result) _ _ _ _ _ _ h (start k .pre .0 .1 .1) (start k .pre .0 .0) (unpacked-all 3 decodeSurface _ _ _ (ap (λ (q : Counts). q .discards) (start k .pre .0 .0)) (unpacked k .unpack .ensures)) (k .check-pass .ensures)
+    λ b h. passed-refused _ _ _ _ _ b _ (start k .args .n) (k .check-pass .result) _ _ _ _ _ _ h (start k .pre .0 .1 .1) (start k .pre .0 .0) (unpacked-all surfaceNumbers decodeSurface _ _ _ (ap (λ (q : Counts). q .discards) (start k .pre .0 .0)) (unpacked k .unpack .ensures)) (k .check-pass .ensures)
     (sym (c .before .before .is-fine .ensures) ∙ not-true (c .before .before .is-fine .result) (c .before .if1 .taken)) (c .numbered .ensures)
 
 add-if2 : tie.Need-add-if2
@@ -71,7 +71,7 @@ returns-2 : tie.Need-returns-2
 returns-2 c =
     let k = c .before .before .before .before .before .before .before .before .before .before in
     let fine = c .before .before .before .before .before .before .is-fine in
-    λ b h. passed-full _ _ _ _ _ b _ (start k .args .n) (k .check-pass .result) _ _ _ _ _ _ h (start k .pre .0 .1 .1) (start k .pre .0 .0) (unpacked-all 3 decodeSurface _ _ _ (ap (λ (q : Counts). q .discards) (start k .pre .0 .0)) (unpacked k .unpack .ensures)) (k .check-pass .ensures)
+    λ b h. passed-full _ _ _ _ _ b _ (start k .args .n) (k .check-pass .result) _ _ _ _ _ _ h (start k .pre .0 .1 .1) (start k .pre .0 .0) (unpacked-all surfaceNumbers decodeSurface _ _ _ (ap (λ (q : Counts). q .discards) (start k .pre .0 .0)) (unpacked k .unpack .ensures)) (k .check-pass .ensures)
     (sym (fine .ensures) ∙ not-false (fine .result) (c .before .before .before .before .before .if1 .left)) (omega (arith, c .before .if2 .taken)) (c .refused-reply .ensures)
 
 slice-aggregate-pack-lent : tie.Need-slice-aggregate-pack-lent
@@ -106,7 +106,7 @@ returns-3 c =
     let k = c .before .before .before .before .before .before .before .before .before .before .before .before .before .before .before .before .before .before .before .before .before .before .before in
     let packed = c .before .before .before .before .before .before .before .pack-lent .ensures in
     let fine = c .before .before .before .before .before .before .before .before .before .before .before .before .before .before .before .before .before .before .before .is-fine in
-    λ b h. passed-accepted _ _ _ _ _ b _ (start k .args .n) (k .check-pass .result) _ _ _ _ _ _ h (start k .pre .0 .1 .1) (start k .pre .0 .0) (unpacked-all 3 decodeSurface _ _ _ (ap (λ (q : Counts). q .discards) (start k .pre .0 .0)) (unpacked k .unpack .ensures)) (k .check-pass .ensures)
+    λ b h. passed-accepted _ _ _ _ _ b _ (start k .args .n) (k .check-pass .result) _ _ _ _ _ _ h (start k .pre .0 .1 .1) (start k .pre .0 .0) (unpacked-all surfaceNumbers decodeSurface _ _ _ (ap (λ (q : Counts). q .discards) (start k .pre .0 .0)) (unpacked k .unpack .ensures)) (k .check-pass .ensures)
     _ _ _ (sym (fine .ensures) ∙ not-false (fine .result) (c .before .before .before .before .before .before .before .before .before .before .before .before .before .before .before .before .before .before .if1 .left)) (omega (arith, c .before .before .before .before .before .before .before .before .before .before .before .before .before .before .if2 .left)) (c .numbered2 .ensures) (packed .0) (packed .1 .0) (packed .1 .1)
 
 pub check-lent-spec : {M : Type 1} → statement M

@@ -5,6 +5,7 @@ use native.Mathlib.Omega.{arith}
 use native.Mathlib.Nat.{le-refl}
 use borrow.Author.Needs.{needs}
 use borrow.Author.Tests.{not-true, not-false}
+use Rattle.definition.specs.Sizes.{surfaceNumbers, actionNumbers}
 use Rattle.records.specs.Lent.{decodeSurface, decodeAction}
 use Rattle.memory_init.specs.declared.Counts.{Counts}
 use Rattle.memory_init.specs.Lent.{Within}
@@ -75,8 +76,8 @@ submit-requires c κs =
     let lent = judged .before .before .judge-lent .ensures in
     let args = start judged .args in
     right-submits _ (stateIn (args .discards .now) (args .actions .now) (args .clears .now) (args .status .now)) _ _ _ _ (sym (lent .decided) ∙ right judged)
-    (sym (unpacked-all 3 decodeSurface _ _ _ (ap (λ (q : Counts). q .discards) (lent .counts)) (c .before .before .before .before .before .before .before .before .unpack .ensures)))
-    (sym (unpacked-all 6 decodeAction _ _ _ (ap (λ (q : Counts). q .actions) (lent .counts)) (c .before .before .before .before .unpack2 .ensures)))
+    (sym (unpacked-all surfaceNumbers decodeSurface _ _ _ (ap (λ (q : Counts). q .discards) (lent .counts)) (c .before .before .before .before .before .before .before .before .unpack .ensures)))
+    (sym (unpacked-all actionNumbers decodeAction _ _ _ (ap (λ (q : Counts). q .actions) (lent .counts)) (c .before .before .before .before .unpack2 .ensures)))
     (valid-of _ (start judged .pre .1) .textures) (valid-of _ (start judged .pre .1) .surfaces _ (le-refl _)) (long judged .status)
     (omega (arith, counts judged .discards)) (omega (arith, counts judged .actions))
 
@@ -100,8 +101,8 @@ returns-2 c =
     let judged = c .before .before .before .before .before .before .before .before .before .before .before .before .before .before .before .before .before .before .before .before .before .before .before in
     let lent = judged .before .before .judge-lent .ensures in
     sent-all _ _ _ _ _ (judged .before .before .judge-lent .result .counts) _ _ _ _ _ (sym (lent .decided) ∙ right judged) (omega (arith, long judged .discards)) (omega (arith, long judged .actions))
-    (unpacked-all 3 decodeSurface _ _ _ (ap (λ (q : Counts). q .discards) (lent .counts)) (c .before .before .before .before .before .before .before .before .before .before .before .before .before .before .before .before .before .before .before .unpack .ensures))
-    (unpacked-all 6 decodeAction _ _ _ (ap (λ (q : Counts). q .actions) (lent .counts)) (c .before .before .before .before .before .before .before .before .before .before .before .before .before .before .before .unpack2 .ensures))
+    (unpacked-all surfaceNumbers decodeSurface _ _ _ (ap (λ (q : Counts). q .discards) (lent .counts)) (c .before .before .before .before .before .before .before .before .before .before .before .before .before .before .before .before .before .before .before .unpack .ensures))
+    (unpacked-all actionNumbers decodeAction _ _ _ (ap (λ (q : Counts). q .actions) (lent .counts)) (c .before .before .before .before .before .before .before .before .before .before .before .before .before .before .before .unpack2 .ensures))
     (c .before .before .before .before .before .before .put-u32 .ensures) (c .before .before .put-u322 .ensures) (c .before .before .before .before .before .before .before .before .before .before .submit .ensures .0)
 
 pub submit-lent-spec : {M : Type 1} → statement M

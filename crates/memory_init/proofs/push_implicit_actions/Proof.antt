@@ -6,6 +6,7 @@ use mathlib.Core.Logic.{⊎-elim}
 use Prim.Native.Nat.{_+_, _-_, _*_, _≤_}
 use lib.ListN.{length}
 use lib.Seq.{sets}
+use Rattle.definition.specs.Sizes.{surfaceNumbers, actionNumbers}
 use Rattle.definition.specs.Surfaces.{hits, onlyRange}
 use Rattle.definition.specs.MemoryInit.{implicitAt, matching}
 use Rattle.laws.proofs.Extend.{Extending, extend-start, extend-room, extend-adds, extend-skips, extend-done}
@@ -16,7 +17,7 @@ use Rattle.memory_init.proofs.push_implicit_actions.Statement.{statemen
 use Rattle.memory_init.proofs.push_implicit_actions.Tie as tie
 
 abbrev Inv-loop : tie.InvT-loop
-Inv-loop discards n range actions₀ a y₀ i₀ actions y i = Extending 3 decodeSurface (hits range) implicitAt 6 decodeAction n discards a actions₀ actions y i
+Inv-loop discards n range actions₀ a y₀ i₀ actions y i = Extending surfaceNumbers decodeSurface (hits range) implicitAt actionNumbers decodeAction n discards a actions₀ actions y i
 
 abbrev μ-loop : tie.MeasureT-loop
 μ-loop discards n range actions₀ a y₀ i₀ actions y i = n - i
@@ -40,7 +41,7 @@ loop-again c =
     let at = read .before .before in
     let more = read .before .loop-test .taken in
     ⊎-elim
-    (λ w. extend-adds (at .loop .inv) more (read .surface-at .ensures) (test .hits .ensures) (w .0 .taken) (λ fits. action-written _ _ _ (onlyRange (read .surface-at .result)) ImplicitlyInitialized (omega (arith, fits)) (w .6 ∙ w .3 .ensures ∙ ap (λ r. sets (at .loop .actions) (6 * at .loop .y) (encodeAction r ImplicitlyInitialized)) (w .2 .ensures))) (w .7))
+    (λ w. extend-adds (at .loop .inv) more (read .surface-at .ensures) (test .hits .ensures) (w .0 .taken) (λ fits. action-written _ _ _ (onlyRange (read .surface-at .result)) ImplicitlyInitialized (omega (arith, fits)) (w .6 ∙ w .3 .ensures ∙ ap (λ r. sets (at .loop .actions) (actionNumbers * at .loop .y) (encodeAction r ImplicitlyInitialized)) (w .2 .ensures))) (w .7))
     (λ w. extend-skips (at .loop .inv) more (read .surface-at .ensures) (test .hits .ensures) (w .0 .left) (w .1) (w .2))
     (c .if1 .came)
 

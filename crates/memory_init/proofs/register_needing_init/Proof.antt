@@ -1,5 +1,6 @@
 -- The four parts, list by list, are the registration.
 use native.Mathlib.Omega.{arith}
+use Rattle.definition.specs.Sizes.{actionNumbers}
 use Rattle.laws.proofs.Records.{append-count}
 use Rattle.records.specs.Lent.{decodeAction}
 use Rattle.memory_init.proofs.Registration.{needing-leaves, needing-actions, needing-clears}
@@ -12,7 +13,7 @@ push-action-requires c κs = let start = c .before .before .before .before in om
 
 push-implicit-actions-requires : tie.Need-push-implicit-actions-requires
 push-implicit-actions-requires c κs = let start = c .before .before .before .before .before .before .before .before .before in
-    (omega arith, omega (arith, needing-actions _ (start .args .n) _ _ (start .args .clears .now) (start .pre), append-count 6 decodeAction _ _ _ _ _ (c .before .before .before .before .push-action .ensures)))
+    (omega arith, omega (arith, needing-actions _ (start .args .n) _ _ (start .args .clears .now) (start .pre), append-count actionNumbers decodeAction _ _ _ _ _ (c .before .before .before .before .push-action .ensures)))
 
 return-clears-requires : tie.Need-return-clears-requires
 return-clears-requires c κs = let start = c .before .before .before .before .before .before .before .before .before .before .before .before .before .before in (omega arith, needing-clears _ (start .args .n) _ (start .args .actions .now) _ (start .pre))

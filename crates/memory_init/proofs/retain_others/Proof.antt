@@ -5,6 +5,7 @@ use native.Mathlib.Omega.{arith}
 use mathlib.Core.Logic.{⊎-elim}
 use mathlib.Core.Bool.{not}
 use Prim.Native.Nat.{_-_}
+use Rattle.definition.specs.Sizes.{surfaceNumbers}
 use Rattle.definition.specs.Surfaces.{hits}
 use Rattle.laws.proofs.Compact.{Compacting, compact-start, compact-keeps, compact-passes, compact-done}
 use Rattle.records.specs.Lent.{decodeSurface}
@@ -13,7 +14,7 @@ use Rattle.memory_init.proofs.retain_others.Statement.{statement}
 use Rattle.memory_init.proofs.retain_others.Tie as tie
 
 abbrev Inv-loop : tie.InvT-loop
-Inv-loop discards₀ n range kept₀ i₀ discards kept i = Compacting 3 decodeSurface (λ s. not (hits range s)) n discards₀ discards kept i
+Inv-loop discards₀ n range kept₀ i₀ discards kept i = Compacting surfaceNumbers decodeSurface (λ s. not (hits range s)) n discards₀ discards kept i
 
 abbrev μ-loop : tie.MeasureT-loop
 μ-loop discards₀ n range kept₀ i₀ discards kept i = n - i

@@ -5,6 +5,7 @@ use native.Mathlib.Omega.{arith}
 use mathlib.Core.Logic.{⊎-elim}
 use Prim.Native.Nat.{_+_, _-_, _≤_}
 use lib.ListN.{length}
+use Rattle.definition.specs.Sizes.{surfaceNumbers}
 use Rattle.definition.specs.Surfaces.{hits}
 use Rattle.definition.specs.MemoryInit.{matching}
 use Rattle.laws.proofs.Extend.{Extending, extend-start, extend-room, extend-adds, extend-skips, extend-done}
@@ -15,7 +16,7 @@ use Rattle.memory_init.proofs.return_clears.Statement.{statement}
 use Rattle.memory_init.proofs.return_clears.Tie as tie
 
 abbrev Inv-loop : tie.InvT-loop
-Inv-loop discards n range clears₀ c y₀ i₀ clears y i = Extending 3 decodeSurface (hits range) (λ s. s) 3 decodeSurface n discards c clears₀ clears y i
+Inv-loop discards n range clears₀ c y₀ i₀ clears y i = Extending surfaceNumbers decodeSurface (hits range) (λ s. s) surfaceNumbers decodeSurface n discards c clears₀ clears y i
 
 abbrev μ-loop : tie.MeasureT-loop
 μ-loop discards n range clears₀ c y₀ i₀ clears y i = n - i

@@ -3,7 +3,7 @@ use mathlib.Core.Path.{sym, subst, _∙_}
 use Prim.Native.Nat.{_<_}
 use native.Mathlib.Omega.{arith}
 use borrow.Author.Needs.{needs}
-use Rattle.print.specs.Most.{mostBytes}
+use Rattle.definition.specs.Sizes.{longestSession}
 use Rattle.print.proofs.Printed.{front-length, printed-refusal, long-not-readable}
 use Rattle.print.proofs.print_oversize.Statement.{statement}
 use Rattle.print.proofs.print_oversize.Tie as tie
@@ -14,7 +14,7 @@ returns c =
     let number = c .before .before .before .before .oversize-refusal in (
       λ file e t h.
           let q = number .ensures file e t h in
-          printed-refusal file _ _ q (λ z. long-not-readable file (subst (λ n. mostBytes < n) (sym e) h) (sym q ∙ z)) (put .ensures .0),
+          printed-refusal file _ _ q (λ z. long-not-readable file (subst (λ n. longestSession < n) (sym e) h) (sym q ∙ z)) (put .ensures .0),
       front-length _ _ (omega arith),
     )
 

@@ -4,11 +4,12 @@ use native.Mathlib.Omega.{arith}
 use Prim.Native.Nat.{ℕ, _*_}
 use borrow.Author.Needs.{needs}
 use lib.ListN.{drop}
+use Rattle.definition.specs.Sizes.{rowBytes}
 use Rattle.definition.specs.Session.{session}
 use Rattle.definition.specs.Calls.{noEntries}
 use Rattle.definition.specs.Program.{lines}
 use Rattle.readable.proofs.Valid.{valid-of}
-use Rattle.rows.specs.Rows.{rowBytes, rowsIn}
+use Rattle.rows.specs.Rows.{rowsIn}
 use Rattle.rows.proofs.session_rows.Statement.{statement}
 use Rattle.rows.proofs.session_rows.Tie as tie
 

@@ -4,10 +4,10 @@ use Prim.Native.Nat.{ℕ, _+_, _*_}
 use native.Mathlib.Omega.{arith}
 use borrow.Author.Needs.{needs}
 use lib.ListN.{drop}
+use Rattle.definition.specs.Sizes.{listBytes}
 use Rattle.definition.specs.Bytes.{u32At}
 use Rattle.wire.specs.Writing.{putNumber}
 use Rattle.lent.specs.Numbers.{numbersAt, putNumbers}
-use Rattle.lent.specs.Packed.{listBytes}
 use Rattle.lent.proofs.Numbers.{number-kept, number-past, numbers-past, numbers-behind}
 use Rattle.wire.proofs.Writing.{put-read}
 use Rattle.lent.proofs.packed.pack.Statement.{statement}

@@ -41,6 +41,7 @@ use denote.Triple.Table.{entered}
 use denote.Triple.Walked.{says, Stays, stay-slice, stay-none, walkOf, goes-slice, goes-none, Walks, ends-at, walked, walk-meets}
 use denote.Exit.{yes}
 use borrow.Author.Needs.{scaled-fits}
+use Rattle.definition.specs.Sizes.{surfaceBytes}
 use Rattle.definition.specs.declared.Surface.{Surface}
 use Rattle.definition.proofs.Surface as T
 use Rattle.definition.proofs.Surface.Laws as T′
@@ -113,10 +114,10 @@ module _ {M : Type 1} (𝓤 : URA M) (H : Heap 𝓤) (A : Atoms 𝓤) (W : Given
         -- room: the place of the record is computed
         (λ h. skips ! $ exec ! C Λ (En at₀ at₁ at₂ at₃ at₄ at₅ at₆) code.Mir.t-4 (atRet (En at₀ at₁ at₂ at₃ at₄ at₅ at₆) Post) $
         let within : n < length l = omega (arith, nleb→lt, nltb→le, h) in
-        let scaled : Fits w64 (n * 12) = scaled-fits n (length l) 12 within (room .1) in
+        let scaled : Fits w64 (n * surfaceBytes) = scaled-fits n (length l) surfaceBytes within (room .1) in
         assigns ! (bin ! (load ! (from ! (stop !)) (look ! 8 refl)) (lit ! tt) scaled) (from ! (stop !)) (store ! 4 refl (tt, scaled)) $
         assigns ! (bin ! (load ! (from ! (fld ! refl (stop !))) (look-in ! 10 (sub ! 0 refl (whole !)))) (load ! (from ! (stop !)) (look ! 4 refl)) tt) (from ! (stop !)) (init ! 0 refl (tt, tt)) $
-        rewrite ! 0 (λ (p : ℕ). ‵ (fat fullShare tyPtr at₆ 0 (vptr b p))) (sym (place-is 12 o n)) refl $
+        rewrite ! 0 (λ (p : ℕ). ‵ (fat fullShare tyPtr at₆ 0 (vptr b p))) (sym (place-is surfaceBytes o n)) refl $
         -- the borrow is opened, the record taken out and stored to, and the borrow closed
         move ! (15 ∷ []) $ fsplit ! $ fsplit ! $ move ! (1 ∷ []) $ fsplit ! $ move ! (18 ∷ []) $ split ! $ move ! (2 ∷ 3 ∷ 0 ∷ []) $ opens-slice ! tt T.the-row l b o $
         elem-out ! T.the-row (Is T.the-row) (shows 𝓤 H A T.the-row) (LL.vals T.the-type T′.the-laws) (LL.tells T.the-type T′.the-laws) fullShare l n none b o within (λ _.

@@ -49,6 +49,7 @@ use denote.Triple.Walked.{says, Stays, stay-slice, stay-none, walkOf, goes-slice
 use denote.Exit.{yes}
 use borrow.Author.Needs.{scaled-fits}
 use borrow.Author.Tests.{lt-ltb, le-ltb, ltb-true, ltb-false}
+use Rattle.definition.specs.Sizes.{surfaceNumbers, surfaceBytes}
 use Rattle.definition.specs.declared.Surface.{Surface}
 use Rattle.definition.proofs.Surface as T
 use Rattle.definition.proofs.Surface.Laws as T′
@@ -174,7 +175,7 @@ module _ {M : Type 1} (𝓤 : URA M) (H : Heap 𝓤) (A : Atoms 𝓤) (W : Given
       Left = afterBlock 𝓤 H (afterSeq 𝓤 H (Wp 𝓤 H C Λ E code.Mir.t-7 (atReturn 𝓤 H E Post)) (atReturn 𝓤 H E Post))
 
       module _ (enough : n ≤ length l) where
-        module _ (l′ : List Surface) (k i : ℕ) (long : length l′ ≡ length l) (going : Compacting 3 decodeSurface (outside a) n (numbers l) (numbers l′) k i) (X : SProp 𝓤) where
+        module _ (l′ : List Surface) (k i : ℕ) (long : length l′ ≡ length l) (going : Compacting surfaceNumbers decodeSurface (outside a) n (numbers l) (numbers l′) k i) (X : SProp 𝓤) where
           abbrev s : Surface
           s = getD l′ i none
 
@@ -185,8 +186,8 @@ module _ {M : Type 1} (𝓤 : URA M) (H : Heap 𝓤) (A : Atoms 𝓤) (W : Given
           more small on-kept on-left =
               let i-in : i < length l′ = omega (arith, long, enough) in
               let k-in : k < length l′ = omega (arith, long, enough, going .behind) in
-              let scaled-i : Fits w64 (i * 12) = scaled-fits i (length l) 12 (omega (arith, enough)) (room .1) in
-              let scaled-k : Fits w64 (k * 12) = scaled-fits k (length l) 12 (omega (arith, long)) (room .1) in
+              let scaled-i : Fits w64 (i * surfaceBytes) = scaled-fits i (length l) surfaceBytes (omega (arith, enough)) (room .1) in
+              let scaled-k : Fits w64 (k * surfaceBytes) = scaled-fits k (length l) surfaceBytes (omega (arith, long)) (room .1) in
               let next-i : i + 1 < 2 ^ 64 = omega arith in
               let fm : FmC 𝓤 H (W .laws) C = fmOf 𝓤 H (W .laws) 𝓣 in
               qed W (At l′ k i) ∵ exec ! C Λ E code.Mir.turn-1 (anyQ (afterTurn 𝓤 H X Left)) $
@@ -195,7 +196,7 @@ module _ {M : Type 1} (𝓤 : URA M) (H : Heap 𝓤) (A : Atoms 𝓤) (W : Given
               rewrite ! 6 (λ (t : Bool). ‵ (fat fullShare tyBool at₉ 0 (vbool t))) (lt-ltb i n small) refl $ stays ! (load ! (from ! (stop !)) (look ! 6 refl)) $
               assigns ! (bin ! (load ! (from ! (stop !)) (look ! 2 refl)) (lit ! tt) scaled-i) (from ! (stop !)) (init ! 7 refl (tt, scaled-i)) $
               assigns ! (bin ! (load ! (from ! (fld ! refl (stop !))) (look-in ! 13 (sub ! 0 refl (whole !)))) (load ! (from ! (stop !)) (look ! 7 refl)) tt) (from ! (stop !)) (init ! 8 refl (tt, tt)) $
-              rewrite ! 8 (λ (p : ℕ). ‵ (fat fullShare tyPtr at₁₁ 0 (vptr b p))) (sym (place-is 12 o i)) refl $
+              rewrite ! 8 (λ (p : ℕ). ‵ (fat fullShare tyPtr at₁₁ 0 (vptr b p))) (sym (place-is surfaceBytes o i)) refl $
               elem-out ! T.the-row (Is T.the-row) (shows 𝓤 H A T.the-row) (LL.vals T.the-type T′.the-laws) (LL.tells T.the-type T′.the-laws) fullShare l′ i none b o i-in (λ g.
               let wt : Holds (hasTy T′.mir (T′.lowered s)) × WT (T′.lowered s) = LL.lawful T.the-type T′.the-laws 𝓤 H A W .typed s _ g .0 in
               assigns ! (of-opd ! (load ! (from ! (hop ! (look ! 10 refl) (stop !))) (look-raw ! 0 refl))) (from ! (stop !)) (init ! 11 refl wt) $
@@ -213,7 +214,7 @@ module _ {M : Type 1} (𝓤 : URA M) (H : Heap 𝓤) (A : Atoms 𝓤) (W : Given
               (λ h.
               assigns ! (bin ! (load ! (from ! (stop !)) (look ! 1 refl)) (lit ! tt) scaled-k) (from ! (stop !)) (init ! 11 refl (tt, scaled-k)) $
               assigns ! (bin ! (load ! (from ! (fld ! refl (stop !))) (look-in ! 13 (sub ! 0 refl (whole !)))) (load ! (from ! (stop !)) (look ! 11 refl)) tt) (from ! (stop !)) (init ! 12 refl (tt, tt)) $
-              rewrite ! 12 (λ (p : ℕ). ‵ (fat fullShare tyPtr at₁₅ 0 (vptr b p))) (sym (place-is 12 o k)) refl $
+              rewrite ! 12 (λ (p : ℕ). ‵ (fat fullShare tyPtr at₁₅ 0 (vptr b p))) (sym (place-is surfaceBytes o k)) refl $
               elem-out ! T.the-row (Is T.the-row) (shows 𝓤 H A T.the-row) (LL.vals T.the-type T′.the-laws) (LL.tells T.the-type T′.the-laws) fullShare l′ k none b o k-in (λ _.
               assigns ! (of-opd ! (load ! (from ! (stop !)) (look ! 5 refl))) (from ! (hop ! (look ! 14 refl) (stop !))) (store-raw ! 0 refl wt) $ move ! (1 ∷ []) $ drop ! $
               owned ! T.the-row (Is T.the-row) (LL.makes T.the-type T′.the-plain 𝓤 H A) s _ g $ move ! (1 ∷ 0 ∷ []) $

@@ -5,8 +5,8 @@ use Prim.Native.Nat.{ℕ, _+_, _-_, _*_, _≤_, _<_}
 use native.Mathlib.Omega.{arith}
 use borrow.Author.Needs.{needs}
 use lib.ListN.{length, take}
+use Rattle.definition.specs.Sizes.{rowNumbers}
 use Rattle.lent.specs.Numbers.{numbersAt}
-use Rattle.rows.specs.Rows.{rowNumbers}
 use Rattle.print.specs.Text.{joined}
 use Rattle.print.proofs.Lines.{number-first, number-more}
 use Rattle.print.proofs.text.put_row.Statement.{statement}

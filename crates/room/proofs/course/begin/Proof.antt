@@ -3,6 +3,7 @@ use mathlib.Core.Path.{_≡_, refl, sym, ap, _∙_}
 use native.Mathlib.Omega.{arith}
 use Prim.Native.Nat.{_-_, _*_, _≤_, zero-le}
 use lib.ListN.{length, take, length-set}
+use Rattle.definition.specs.Sizes.{surfaceNumbers}
 use Rattle.room.proofs.Tracking.{copy-turn, tracks-begin}
 use Rattle.room.proofs.course.begin.Statement.{statement}
 use Rattle.room.proofs.course.begin.Tie as tie
@@ -27,7 +28,7 @@ same-length c = c .before .loop .inv .1 .1
 returns : tie.Need-returns Inv-loop μ-loop
 returns c = λ a z. let at = c .before in
     let start = at .before in
-    let all : at .loop .i ≡ 3 * start .args .n .discards = omega arith in
+    let all : at .loop .i ≡ surfaceNumbers * start .args .n .discards = omega arith in
     tracks-begin (start .args .n) _ _ (start .pre .1 .1) (ap (λ q. take q (at .loop .copy)) (sym all) ∙ at .loop .inv .0 ∙ ap (λ q. take q (start .args .discards .now)) all) a z
 
 pub begin-spec : {M : Type 1} → statement M
