@@ -4,12 +4,12 @@
 use std::collections::BTreeMap;
 
 use interface::{surface_fields, Desk, Lists, Reply};
-use sessions::layout::{NONE, PASS_LEN};
+use sessions::layout::{COUNT_LEN, FIELD_LEN, NONE, SLOTS};
+use sessions::layout::{PASS_COUNT_AT, PASS_ENDS_AT, PASS_LEN};
 use sessions::random::{self, Prng};
 use sessions::reply::{Answer, Judged};
-use sessions::{damage, Pass, Session};
+use sessions::{damage, text, Pass, Session};
 
-use crate::examples;
 use crate::expected::{answer, reply_record};
 use crate::reference::row_numbers;
 
@@ -32,7 +32,7 @@ impl Record {
 
     /// Bytes of the record in a file.
     fn length(&self) -> usize {
-        8 + self.session.len() + 4 * self.words.len()
+        2 * COUNT_LEN + self.session.len() + FIELD_LEN * self.words.len()
     }
 }
 
@@ -85,8 +85,8 @@ fn after_the_line(reply: &Reply) -> Vec<u32> {
 
 /// Bytes as little-endian words; the last is filled up with zeros.
 fn packed(bytes: &[u8]) -> impl Iterator<Item = u32> + '_ {
-    bytes.chunks(4).map(|some| {
-        let mut four = [0; 4];
+    bytes.chunks(FIELD_LEN).map(|some| {
+        let mut four = [0; FIELD_LEN];
         four[..some.len()].copy_from_slice(some);
         u32::from_le_bytes(four)
     })
@@ -102,9 +102,7 @@ const LARGEST: usize = 2_000;
 pub fn list(seed: u64, sessions: usize) -> Vec<Record> {
     let mut prng = Prng::new(seed);
     let mut seen: BTreeMap<[u32; 6], u32> = BTreeMap::new();
-    let first = examples::repository("examples/first.session");
-    let first = std::fs::read(first).expect("document 01's example");
-    let mut all = vec![Record::new(first)];
+    let mut all = vec![Record::new(text::document_01())];
     while all.len() < sessions {
         let record = Record::new(candidate(&mut prng));
         let kinds = kinds(&record.session);
@@ -188,7 +186,7 @@ fn named_views(session: &Session) -> Vec<u32> {
 /// Every examined view number of a pass.
 fn each_view(pass: &mut Pass, mut tell: impl FnMut(&mut u32)) {
     tell(&mut pass.depth_stencil);
-    let colours = pass.colours.min(8) as usize;
+    let colours = (pass.colours as usize).min(SLOTS);
     for slot in &mut pass.slots[..colours] {
         tell(&mut slot.view);
         tell(&mut slot.resolve);
@@ -221,7 +219,7 @@ pub fn from_bytes(mut bytes: &[u8]) -> Option<Vec<Record>> {
     let mut records = Vec::new();
     while !bytes.is_empty() {
         let session = take_counted(&mut bytes, 1)?.to_vec();
-        let words = take_counted(&mut bytes, 4)?.chunks_exact(4);
+        let words = take_counted(&mut bytes, FIELD_LEN)?.chunks_exact(FIELD_LEN);
         let words = words.map(|four| interface::u32_at(four, 0)).collect();
         records.push(Record { session, words });
     }
@@ -230,7 +228,7 @@ pub fn from_bytes(mut bytes: &[u8]) -> Option<Vec<Record>> {
 
 /// Takes a count and so many entries of a size off the front.
 fn take_counted<'a>(bytes: &mut &'a [u8], size: usize) -> Option<&'a [u8]> {
-    let (count, rest) = bytes.split_at_checked(4)?;
+    let (count, rest) = bytes.split_at_checked(COUNT_LEN)?;
     let length = interface::u32_at(count, 0) as usize * size;
     let (entries, rest) = rest.split_at_checked(length)?;
     *bytes = rest;
@@ -246,12 +244,12 @@ pub fn replay(desk: &dyn Desk, record: &Record) -> Vec<u32> {
         return words;
     }
     let mut lists = Lists::fresh();
-    let passes = interface::u32_at(session, 16);
+    let passes = interface::u32_at(session, PASS_COUNT_AT);
     for pass in 0..passes {
         let reply = desk.pass(session, pass, lists.lend());
         replayed_pass(pass, &reply, &lists, &mut words);
         let row = session.len() - (passes - pass) as usize * PASS_LEN;
-        if interface::u32_at(session, row + 8) == 1 || pass + 1 == passes {
+        if interface::u32_at(session, row + PASS_ENDS_AT) == 1 || pass + 1 == passes {
             desk.submit(session, lists.lend());
             words.extend([1, surfaces(session)]);
             words.extend(packed(&lists.status[..surfaces(session) as usize]));

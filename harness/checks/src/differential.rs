@@ -7,6 +7,7 @@ use std::fmt;
 use compare::reduce::reduce;
 use compare::Counts;
 use interface::{Desk, Lists};
+use sessions::layout::COUNT_LEN;
 use sessions::random::{self, Prng};
 use sessions::reader;
 use sessions::reply::{first_difference, Answer, Judged};
@@ -69,9 +70,9 @@ fn fresh(bytes: &[u8], prng: &mut Prng) -> Lists {
     }
     let surfaces = reader::read(bytes).map_or(0, |s| reader::surfaces(&s) as usize);
     let parts = [
-        (&mut lists.discards, 4),
-        (&mut lists.actions, 4),
-        (&mut lists.clears, 4),
+        (&mut lists.discards, COUNT_LEN),
+        (&mut lists.actions, COUNT_LEN),
+        (&mut lists.clears, COUNT_LEN),
         (&mut lists.status, surfaces),
     ];
     for (part, fixed) in parts {

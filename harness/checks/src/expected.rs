@@ -1,7 +1,7 @@
 //! What a call should answer and leave, in the form of the C interface.
 
 use interface::{action_fields, put_records, surface_fields, Attachment, Color, Lists, Reply};
-use sessions::layout::NO_PLACE;
+use sessions::layout::{ACTION_FIELDS, NO_PLACE, SURFACE_FIELDS};
 use sessions::reply::{self, Answer, Judged, Part};
 
 /// The bits that every NaN colour comes back with.
@@ -111,8 +111,14 @@ pub fn after_pass(before: &Lists, row: &Judged) -> Lists {
 /// What a submission leaves in the buffers: empty lists, the clears, and these status bytes.
 pub fn after_submission(before: &Lists, status: &[u8]) -> Lists {
     let mut after = before.clone();
-    put_records(&mut after.discards, std::iter::empty::<[u32; 3]>());
-    put_records(&mut after.actions, std::iter::empty::<[u32; 6]>());
+    put_records(
+        &mut after.discards,
+        std::iter::empty::<[u32; SURFACE_FIELDS]>(),
+    );
+    put_records(
+        &mut after.actions,
+        std::iter::empty::<[u32; ACTION_FIELDS]>(),
+    );
     after.status[..status.len()].copy_from_slice(status);
     after
 }

@@ -95,11 +95,13 @@ impl Loan {
 
 #[cfg(test)]
 mod tests {
+    use interface::DISCARDS_LEN;
+
     use super::*;
 
     #[test]
     fn a_byte_written_on_either_side_is_seen() {
-        for length in [0, 1, 772] {
+        for length in [0, 1, DISCARDS_LEN] {
             let content = vec![7; length];
             assert!(Guarded::new(&content).intact());
             assert_eq!(Guarded::new(&content).content(), content);

@@ -3,7 +3,8 @@
 use interface::put_records;
 use interface::{Lists, ACTIONS_LEN, CLEARS_LEN, DISCARDS_LEN, ROWS_LEN, STATUS_LEN};
 use sessions::damage;
-use sessions::layout::{ACTIONS, CLEARS, DISCARDS, HEADER_LEN, PASS_LEN};
+use sessions::layout::{ACTIONS, CLEARS, DISCARDS, FIELD_LEN, HEADER_LEN};
+use sessions::layout::{PASS_FRONT_LEN, PASS_LEN, SLOTS, SLOT_LEN, SLOT_OWN_FIELDS};
 use sessions::random::Prng;
 
 use crate::calls::Call;
@@ -85,7 +86,7 @@ fn pass_number(input: &Input, prng: &mut Prng) -> u32 {
 
 /// Overwrites a u32 at a place that has one.
 fn put(bytes: &mut [u8], at: usize, value: u32) {
-    if let Some(field) = bytes.get_mut(at..at + 4) {
+    if let Some(field) = bytes.get_mut(at..at + FIELD_LEN) {
         field.copy_from_slice(&value.to_le_bytes());
     }
 }
@@ -105,12 +106,16 @@ fn pass_field(session: &mut [u8], prng: &mut Prng) {
         2..5 => prng.below(16),
         _ => prng.below(4),
     };
+    let (front, slot) = (PASS_FRONT_LEN / FIELD_LEN, SLOT_LEN / FIELD_LEN);
     let field = match prng.below(3) {
-        0 => prng.below(14),
-        _ => 14 + 14 * prng.below(8) + prng.below(6),
+        0 => prng.below(front as u32),
+        _ => {
+            let slots = front as u32 + slot as u32 * prng.below(SLOTS as u32);
+            slots + prng.below(SLOT_OWN_FIELDS as u32)
+        }
     };
     if let Some(start) = some_pass(session, prng) {
-        put(session, start + 4 * field as usize, value);
+        put(session, start + FIELD_LEN * field as usize, value);
     }
 }
 
@@ -124,11 +129,11 @@ fn move_pass(session: &mut [u8], prng: &mut Prng) {
 
 /// One field anywhere is overwritten by another.
 fn copy_field(session: &mut [u8], prng: &mut Prng) {
-    let fields = (session.len() / 4) as u32;
+    let fields = (session.len() / FIELD_LEN) as u32;
     if fields > 0 {
-        let from = 4 * prng.below(fields) as usize;
-        let to = 4 * prng.below(fields) as usize;
-        session.copy_within(from..from + 4, to);
+        let from = FIELD_LEN * prng.below(fields) as usize;
+        let to = FIELD_LEN * prng.below(fields) as usize;
+        session.copy_within(from..from + FIELD_LEN, to);
     }
 }
 
@@ -139,7 +144,7 @@ fn list_field(lists: &mut Lists, prng: &mut Prng) {
         1 => &mut lists.actions,
         _ => &mut lists.clears,
     };
-    let fields = (list.len() / 4).clamp(1, 30) as u32;
+    let fields = (list.len() / FIELD_LEN).clamp(1, 30) as u32;
     let field = if prng.chance(40) {
         0
     } else {
@@ -147,10 +152,13 @@ fn list_field(lists: &mut Lists, prng: &mut Prng) {
     };
     let value = match prng.below(8) {
         0 => prng.bits() as u32,
-        1 => prng.pick(&[63, 64, 65, 79, 80, 81, 511, 512, 513]),
+        1 => {
+            let around = |room: usize| [room - 1, room, room + 1];
+            prng.pick(&[DISCARDS, CLEARS, ACTIONS].map(around).concat()) as u32
+        }
         _ => prng.below(4),
     };
-    put(list, 4 * field as usize, value);
+    put(list, FIELD_LEN * field as usize, value);
 }
 
 /// A list gets about as many records of one surface as it has room for.

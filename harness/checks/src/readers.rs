@@ -48,11 +48,11 @@ fn strings_of(length: usize) -> Vec<Vec<u8>> {
     let mut all = vec![vec![0; length], vec![255; length], vec![1; length]];
     all.push((0..length).map(|i| i as u8).collect());
     let right = header(length as u32);
-    for field in 0..FIELDS {
+    for field in 0..HEADER_FIELDS {
         for value in bounds(field) {
             for total in totals(length) {
                 let mut fields = right;
-                fields[FIELDS - 1] = total;
+                fields[HEADER_FIELDS - 1] = total;
                 fields[field] = value;
                 all.push(string(&fields, length));
             }
@@ -63,17 +63,25 @@ fn strings_of(length: usize) -> Vec<Vec<u8>> {
     all
 }
 
-/// Fields of the header.
-const FIELDS: usize = HEADER_LEN / 4;
-
 /// The header of a session without rows, with a total length.
-fn header(total: u32) -> [u32; FIELDS] {
+fn header(total: u32) -> [u32; HEADER_FIELDS] {
     let at = HEADER_LEN as u32;
-    [0, at, 0, at, 0, at, SLOTS as u32, 32, 15, total]
+    [
+        0,
+        at,
+        0,
+        at,
+        0,
+        at,
+        SLOTS as u32,
+        MAX_MULTIVIEW,
+        ALL_FLAGS,
+        total,
+    ]
 }
 
 /// The fields as bytes, cut or continued with zeros.
-fn string(fields: &[u32; FIELDS], length: usize) -> Vec<u8> {
+fn string(fields: &[u32; HEADER_FIELDS], length: usize) -> Vec<u8> {
     let mut bytes: Vec<u8> = fields
         .iter()
         .flat_map(|field| field.to_le_bytes())
@@ -96,13 +104,13 @@ fn totals(length: usize) -> [u32; 4] {
 /// The values of a header field around its bounds, and great ones.
 fn bounds(field: usize) -> Vec<u32> {
     let around = |n: u32| [n.wrapping_sub(1), n, n.wrapping_add(1)];
-    let most = match field {
-        0 => MAX_TEXTURES,
-        2 => MAX_VIEWS,
-        4 => MAX_PASSES,
-        6 => SLOTS as u32,
-        7 => 32,
-        8 => 15,
+    let most = match field * FIELD_LEN {
+        TEXTURE_COUNT_AT => MAX_TEXTURES,
+        VIEW_COUNT_AT => MAX_VIEWS,
+        PASS_COUNT_AT => MAX_PASSES,
+        MAX_COLOURS_AT => SLOTS as u32,
+        MAX_VIEWS_AT => MAX_MULTIVIEW,
+        FLAGS_AT => ALL_FLAGS,
         _ => HEADER_LEN as u32,
     };
     let mut all = vec![0, 1, 2, 1 << 8, 1 << 16, 1 << 24, 1 << 31];
@@ -147,7 +155,7 @@ pub fn long_files(refusal: Refusal) -> Result<ByNumber, String> {
         for field in [length as u32, LONGEST as u32, 65_536, 0] {
             let mut bytes = string(&header(field), length);
             hold(refusal, &bytes, &mut seen)?;
-            bytes[16] = 100;
+            bytes[PASS_COUNT_AT] = MAX_PASSES as u8;
             hold(refusal, &bytes, &mut seen)?;
         }
     }

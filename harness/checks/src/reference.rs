@@ -2,8 +2,10 @@
 
 use interface::{action_fields, put_records, surface_fields, u32_at};
 use interface::{Desk, Lent, Lists, Reply, ACTIONS_LEN, CLEARS_LEN, DISCARDS_LEN, STATUS_LEN};
-use interface::{ROWS_LEN, ROW_LEN};
-use sessions::layout::{ACTIONS, CLEARS, DISCARDS};
+use interface::{ROWS_LEN, ROW_LEN, ROW_NUMBERS};
+use sessions::layout::{
+    ACTIONS, ACTION_KIND_AT, ACTION_LEN, CLEARS, COUNT_LEN, DISCARDS, FIELD_LEN,
+};
 use sessions::reply::{Action, Judged, Kind, Surface};
 
 use crate::expected::reply_record;
@@ -66,12 +68,13 @@ fn put_lists(lent: &mut Lent, records: &model::Lent) {
 fn put_row(rows: &mut [u8], row: &Judged) {
     let at = row.pass * ROW_LEN;
     for (i, number) in row_numbers(row).into_iter().enumerate() {
-        rows[at + 4 * i..at + 4 * i + 4].copy_from_slice(&number.to_le_bytes());
+        let place = at + FIELD_LEN * i;
+        rows[place..place + FIELD_LEN].copy_from_slice(&number.to_le_bytes());
     }
 }
 
 /// The nine numbers of a pass; its places are told.
-pub fn row_numbers(row: &Judged) -> [u32; 9] {
+pub fn row_numbers(row: &Judged) -> [u32; ROW_NUMBERS] {
     let r = &row.reply;
     [
         row.pass as u32,
@@ -150,5 +153,6 @@ fn within_room(list: &[u8], entries: Vec<Surface>, most: usize) -> Vec<Surface> 
 /// A count past the room, or a kind that is neither 0 nor 1.
 fn unlawful_actions(list: &[u8]) -> bool {
     let count = u32_at(list, 0) as usize;
-    count > ACTIONS || (0..count).any(|i| u32_at(list, 4 + 24 * i + 20) > 1)
+    let kind = |i: usize| u32_at(list, COUNT_LEN + ACTION_LEN * i + ACTION_KIND_AT);
+    count > ACTIONS || (0..count).any(|i| kind(i) > 1)
 }

@@ -6,6 +6,8 @@ use std::fmt;
 
 use interface::{u32_at, Desk, Lists, ACTIONS_LEN, CLEARS_LEN, DISCARDS_LEN, STATUS_LEN};
 use sessions::damage;
+use sessions::layout::{ACTIONS, ACTION_FIELDS, CLEARS, COUNT_LEN, DISCARDS};
+use sessions::layout::{FIELD_LEN, SURFACE_FIELDS};
 use sessions::random::Prng;
 use sessions::reader;
 
@@ -68,7 +70,8 @@ fn damaged_too(
 ) -> Result<(), String> {
     let damaged = damage::random(bytes, prng);
     let mut wrong = lists.clone();
-    wrong.discards[..4].copy_from_slice(&65u32.to_le_bytes());
+    let one_more = DISCARDS as u32 + 1;
+    wrong.discards[..COUNT_LEN].copy_from_slice(&one_more.to_le_bytes());
     let mut short = lists.clone();
     short.status.truncate(STATUS_LEN - 1);
     for lists in [&wrong, &short] {
@@ -137,12 +140,14 @@ fn short(lists: &Lists) -> Vec<(String, Lists)> {
 
 /// Each count off by one, one past the room, and as great as can be.
 fn counts(lists: &Lists) -> Vec<(String, Lists)> {
+    let full = |room: usize| [room as u32, room as u32 + 1];
+    let rooms = [DISCARDS, CLEARS, ACTIONS].map(full).concat();
     let mut all = Vec::new();
     for ((name, list), count) in LISTS.into_iter().zip(lists.counts()) {
-        let (less, more) = (count.wrapping_sub(1), count.wrapping_add(1));
-        for other in [less, more, 64, 65, 80, 81, 512, 513, u32::MAX] {
+        let near = [count.wrapping_sub(1), count.wrapping_add(1)];
+        for other in [&near, &rooms[..], &[u32::MAX]].concat() {
             let mut changed = lists.clone();
-            list(&mut changed)[..4].copy_from_slice(&other.to_le_bytes());
+            list(&mut changed)[..COUNT_LEN].copy_from_slice(&other.to_le_bytes());
             all.push((format!("count {other} of {name}"), changed));
         }
     }
@@ -153,8 +158,13 @@ fn counts(lists: &Lists) -> Vec<(String, Lists)> {
 fn records(lists: &Lists, prng: &mut Prng) -> Vec<(String, Lists)> {
     let mut places: Vec<(usize, usize)> = Vec::new();
     for (list, count) in lists.counts().into_iter().enumerate() {
-        let fields = if list == 1 { 6 } else { 3 };
-        places.extend((0..count as usize * fields).map(|field| (list, 4 + 4 * field)));
+        let fields = if list == 1 {
+            ACTION_FIELDS
+        } else {
+            SURFACE_FIELDS
+        };
+        let at = |field: usize| (list, COUNT_LEN + FIELD_LEN * field);
+        places.extend((0..count as usize * fields).map(at));
     }
     while places.len() > MOST_RECORDS {
         places.swap_remove(prng.below(places.len() as u32) as usize);
@@ -164,7 +174,7 @@ fn records(lists: &Lists, prng: &mut Prng) -> Vec<(String, Lists)> {
         let (name, part) = LISTS[list];
         for step in [-1, 1] {
             let mut changed = lists.clone();
-            let field = &mut part(&mut changed)[at..at + 4];
+            let field = &mut part(&mut changed)[at..at + FIELD_LEN];
             let value = u32_at(field, 0).wrapping_add_signed(step);
             field.copy_from_slice(&value.to_le_bytes());
             all.push((format!("{name}, byte {at}: {value}"), changed));

@@ -1,6 +1,7 @@
 //! Whole sessions in one call: the rows, and the lines that the program prints of them.
 
 use interface::{u32_at, Desk, ROWS_LEN, ROW_LEN, ROW_NUMBERS};
+use sessions::layout::{FIELD_LEN, PASS_COUNT_AT};
 
 use crate::guard::Guarded;
 use crate::reference::row_numbers;
@@ -62,7 +63,7 @@ fn hold_rows(
 
 /// The numbers of a pass's row.
 fn numbers(rows: &[u8], pass: usize) -> [u32; ROW_NUMBERS] {
-    std::array::from_fn(|i| u32_at(rows, pass * ROW_LEN + 4 * i))
+    std::array::from_fn(|i| u32_at(rows, pass * ROW_LEN + FIELD_LEN * i))
 }
 
 /// The lines of `deskcheck` made of a whole session's rows.
@@ -72,7 +73,7 @@ pub fn lines(desk: &dyn Desk, bytes: &[u8]) -> String {
     if number != 0 {
         return format!("session {number}\n");
     }
-    let passes = u32_at(bytes, 16) as usize;
+    let passes = u32_at(bytes, PASS_COUNT_AT) as usize;
     (0..passes).map(|pass| line(numbers(&rows, pass))).collect()
 }
 

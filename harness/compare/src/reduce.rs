@@ -1,6 +1,6 @@
 //! Makes a file smaller while it keeps a property.
 
-use sessions::layout::NONE;
+use sessions::layout::{NONE, SLOTS};
 use sessions::rows::{EMPTY_PASS, EMPTY_SLOT};
 use sessions::{reader, Pass, Session};
 
@@ -58,7 +58,7 @@ fn smaller_passes(pass: &Pass) -> Vec<Pass> {
     take(&|p| p.depth_stencil = NONE);
     take(&|p| p.mask = 0);
     take(&|p| p.colours = p.colours.saturating_sub(1));
-    for k in 0..pass.colours.min(8) as usize {
+    for k in 0..(pass.colours as usize).min(SLOTS) {
         take(&|p| p.slots[k] = EMPTY_SLOT);
         take(&|p| p.slots[k].resolve = NONE);
         take(&|p| p.slots[k].clear = [0; 4]);

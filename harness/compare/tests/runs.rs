@@ -4,6 +4,7 @@ use std::sync::OnceLock;
 
 use compare::reduce::reduce;
 use compare::{compare_file, enumerated_run, numbers_of_files, random_run, Counts};
+use sessions::layout::{HEADER_LEN, LONGEST, TOTAL_AT};
 use sessions::random::{self, Prng};
 use sessions::{damage, reader, text};
 
@@ -128,7 +129,8 @@ fn both_readers_agree_on_short_byte_strings() {
                 assert_eq!(read, model::run(&bytes).err(), "{bytes:?}");
                 assert_eq!(
                     read == Some(1),
-                    length < 40 || bytes[36..40] != (length as u32).to_le_bytes()
+                    length < HEADER_LEN
+                        || bytes[TOTAL_AT..HEADER_LEN] != (length as u32).to_le_bytes()
                 );
             }
         }
@@ -156,10 +158,14 @@ fn a_file_is_reduced_to_what_shows_the_property() {
 
 #[test]
 fn both_readers_agree_on_long_files() {
-    for (length, field) in [(70_000, 70_000u32), (70_000, 60_680), (60_681, 60_681)] {
+    for (length, field) in [
+        (70_000, 70_000),
+        (70_000, LONGEST),
+        (LONGEST + 1, LONGEST + 1),
+    ] {
         let mut bytes = vec![0; length];
-        bytes[36..40].copy_from_slice(&field.to_le_bytes());
-        let number = if field as usize == length { 2 } else { 1 };
+        bytes[TOTAL_AT..HEADER_LEN].copy_from_slice(&(field as u32).to_le_bytes());
+        let number = if field == length { 2 } else { 1 };
         assert_eq!(oracle::run(&bytes), Err(number));
         assert_eq!(model::run(&bytes), Err(number));
     }

@@ -25,10 +25,12 @@
 
 mod foreign;
 
+pub use interface::layout;
 pub use interface::{Attachment, Color, Desk, Lent, Lists, Reply};
 pub use interface::{ACTIONS_LEN, CLEARS_LEN, DISCARDS_LEN, ROWS_LEN, STATUS_LEN};
 
 use interface::{u32_at, ROW_LEN, ROW_NUMBERS};
+use layout::{FIELD_LEN, PASS_COUNT_AT};
 
 /// The session's refusal: 0, or 1 to 4.
 #[inline]
@@ -130,12 +132,9 @@ pub fn check(file: &[u8]) -> Result<Vec<[u32; ROW_NUMBERS]>, u32> {
     }
 }
 
-/// Where the header has the pass count.
-const PASS_COUNT_AT: usize = 16;
-
 /// The numbers of a row.
 fn row(bytes: &[u8]) -> [u32; ROW_NUMBERS] {
-    std::array::from_fn(|i| u32_at(bytes, 4 * i))
+    std::array::from_fn(|i| u32_at(bytes, FIELD_LEN * i))
 }
 
 /// The proved library as the calls that the harness checks.

@@ -6,13 +6,11 @@ mod lists;
 mod records;
 
 pub use lists::{action_fields, put_records, surface_fields, u32_at};
-pub use lists::{Lent, Lists, ACTIONS_LEN, CLEARS_LEN, DISCARDS_LEN, ROWS_LEN, STATUS_LEN};
-pub use records::{Attachment, Color, Reply, MOST_ATTACHMENTS};
-
-/// Numbers of a pass's row in the answer to a whole session.
-pub const ROW_NUMBERS: usize = 9;
-/// Bytes of a pass's row.
-pub const ROW_LEN: usize = 4 * ROW_NUMBERS;
+pub use lists::{Lent, Lists};
+pub use records::{Attachment, Color, Reply};
+pub use sessions::layout;
+pub use sessions::layout::{ACTIONS_LEN, CLEARS_LEN, DISCARDS_LEN, ROWS_LEN, STATUS_LEN};
+pub use sessions::layout::{ROW_LEN, ROW_NUMBERS};
 
 /// The four calls. Each tests its own input.
 pub trait Desk {

@@ -1,26 +1,10 @@
 //! What a caller lends: three lists and the status bytes, as byte buffers. A list is a count and
 //! then its records, all little-endian u32.
 
-use sessions::layout::{ACTIONS, CLEARS, DISCARDS, MAX_PASSES, STATUS};
+use sessions::layout::{ACTIONS_LEN, ACTION_FIELDS, ACTION_KIND_AT, ACTION_LEN};
+use sessions::layout::{CLEARS_LEN, COUNT_LEN, DISCARDS_LEN, FIELD_LEN, STATUS_LEN};
+use sessions::layout::{SURFACE_FIELDS, SURFACE_LEN};
 use sessions::reply::{Action, Kind, Surface};
-
-/// Bytes of a count.
-const COUNT_LEN: usize = 4;
-/// Bytes of a surface record: texture, mip, layer.
-const SURFACE_LEN: usize = 12;
-/// Bytes of an action record: texture, mip, mips, layer, layers, kind.
-const ACTION_LEN: usize = 24;
-
-/// Bytes that the discard list needs.
-pub const DISCARDS_LEN: usize = COUNT_LEN + DISCARDS * SURFACE_LEN;
-/// Bytes that the action list needs.
-pub const ACTIONS_LEN: usize = COUNT_LEN + ACTIONS * ACTION_LEN;
-/// Bytes that the clear list needs.
-pub const CLEARS_LEN: usize = COUNT_LEN + CLEARS * SURFACE_LEN;
-/// Status bytes.
-pub const STATUS_LEN: usize = STATUS;
-/// Bytes that the rows of a whole session need.
-pub const ROWS_LEN: usize = MAX_PASSES as usize * super::ROW_LEN;
 
 /// The four lent buffers of one call. Shorter ones are refused as 6, further bytes are not touched.
 pub struct Lent<'a> {
@@ -89,14 +73,15 @@ impl Lists {
     }
 
     /// How many discards, actions and clears are listed.
-    pub fn counts(&self) -> [u32; 3] {
+    pub fn counts(&self) -> [u32; SURFACE_FIELDS] {
         [&self.discards, &self.actions, &self.clears].map(|list| u32_at(list, 0))
     }
 }
 
 /// The u32 at an offset; 0 past the end.
 pub fn u32_at(bytes: &[u8], at: usize) -> u32 {
-    let four = bytes.get(at..at + 4).and_then(|four| four.try_into().ok());
+    let four = bytes.get(at..at + FIELD_LEN);
+    let four = four.and_then(|four| four.try_into().ok());
     four.map_or(0, u32::from_le_bytes)
 }
 
@@ -110,8 +95,8 @@ fn records<T>(list: &[u8], length: usize, record: impl Fn(&[u8]) -> T) -> Vec<T>
 fn surface_at(record: &[u8]) -> Surface {
     Surface {
         texture: u32_at(record, 0),
-        mip: u32_at(record, 4),
-        layer: u32_at(record, 8),
+        mip: u32_at(record, FIELD_LEN),
+        layer: u32_at(record, 2 * FIELD_LEN),
     }
 }
 
@@ -119,26 +104,27 @@ fn surface_at(record: &[u8]) -> Surface {
 fn action_at(record: &[u8]) -> Action {
     let range = |at: usize| {
         let first = u32_at(record, at);
-        (first, first.saturating_add(u32_at(record, at + 4)))
+        let count = u32_at(record, at + FIELD_LEN);
+        (first, first.saturating_add(count))
     };
     Action {
-        kind: match u32_at(record, 20) {
+        kind: match u32_at(record, ACTION_KIND_AT) {
             0 => Kind::Implicit,
             _ => Kind::Needing,
         },
         texture: u32_at(record, 0),
-        mips: range(4),
-        layers: range(12),
+        mips: range(FIELD_LEN),
+        layers: range(3 * FIELD_LEN),
     }
 }
 
 /// A surface as the fields of its record.
-pub fn surface_fields(s: &Surface) -> [u32; 3] {
+pub fn surface_fields(s: &Surface) -> [u32; SURFACE_FIELDS] {
     [s.texture, s.mip, s.layer]
 }
 
 /// An action as the fields of its record.
-pub fn action_fields(a: &Action) -> [u32; 6] {
+pub fn action_fields(a: &Action) -> [u32; ACTION_FIELDS] {
     let kind = match a.kind {
         Kind::Implicit => 0,
         Kind::Needing => 1,
@@ -159,8 +145,8 @@ pub fn put_records<const N: usize>(list: &mut [u8], records: impl Iterator<Item 
     let mut count = 0u32;
     let mut at = COUNT_LEN;
     for field in records.inspect(|_| count += 1).flatten() {
-        list[at..at + 4].copy_from_slice(&field.to_le_bytes());
-        at += 4;
+        list[at..at + FIELD_LEN].copy_from_slice(&field.to_le_bytes());
+        at += FIELD_LEN;
     }
     list[..COUNT_LEN].copy_from_slice(&count.to_le_bytes());
 }

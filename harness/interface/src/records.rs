@@ -1,7 +1,6 @@
 //! The reply to one pass, as the C interface lays it out.
 
-/// Most attachments of a pass: depth-stencil, eight colours, eight resolve targets.
-pub const MOST_ATTACHMENTS: usize = 17;
+use sessions::layout::{ATTACHMENT_LEN, ATTACHMENT_WORDS, COLOR_LEN, MOST_ATTACHMENTS, REPLY_LEN};
 
 /// A colour clear value.
 #[repr(C)]
@@ -60,9 +59,9 @@ pub struct Reply {
 }
 
 // The sizes that a C compiler gives the three records.
-const _: () = assert!(size_of::<Color>() == 32);
-const _: () = assert!(size_of::<Attachment>() == 56);
-const _: () = assert!(size_of::<Reply>() == 1000);
+const _: () = assert!(size_of::<Color>() == COLOR_LEN);
+const _: () = assert!(size_of::<Attachment>() == ATTACHMENT_LEN);
+const _: () = assert!(size_of::<Reply>() == REPLY_LEN);
 
 impl Color {
     /// The colour of four f64 given as bits.
@@ -89,8 +88,8 @@ impl Color {
 
 impl Attachment {
     /// The fields as fourteen words, floats as their bits.
-    pub fn words(&self) -> [u32; 14] {
-        let mut words = [0; 14];
+    pub fn words(&self) -> [u32; ATTACHMENT_WORDS] {
+        let mut words = [0; ATTACHMENT_WORDS];
         words[..4].copy_from_slice(&[self.view, self.usage, self.ops, self.stencil_ops]);
         words[4..12].copy_from_slice(&self.color.words());
         words[12..].copy_from_slice(&[self.depth.to_bits(), self.stencil]);

@@ -25,7 +25,7 @@ impl Lent {
         Lent {
             lists: Lists::default(),
             clears: Vec::new(),
-            status: vec![0; STATUS],
+            status: vec![0; STATUS_LEN],
             discard_room: DISCARDS,
             action_room: ACTIONS,
             clear_room: CLEARS,
@@ -37,7 +37,7 @@ impl Lent {
         self.discard_room < DISCARDS
             || self.action_room < ACTIONS
             || self.clear_room < CLEARS
-            || self.status.len() < STATUS
+            || self.status.len() < STATUS_LEN
     }
 
     /// Number 6 after 4: a count, a record or a status byte is out of range.

@@ -105,65 +105,66 @@ pub struct Colour {
 /// The u32 at an offset; the caller knows that the file reaches that far.
 fn u32_at(bytes: &[u8], at: usize) -> u32 {
     let mut four = [0; 4];
-    four.copy_from_slice(&bytes[at..at + 4]);
+    four.copy_from_slice(&bytes[at..at + FIELD_LEN]);
     u32::from_le_bytes(four)
 }
 
 /// The u64 at an offset.
 fn u64_at(bytes: &[u8], at: usize) -> u64 {
-    u64::from(u32_at(bytes, at)) + (u64::from(u32_at(bytes, at + 4)) << 32)
+    u64::from(u32_at(bytes, at)) + (u64::from(u32_at(bytes, at + FIELD_LEN)) << 32)
 }
 
 /// Reads a session, or says its refusal.
 pub fn session(bytes: &[u8]) -> Result<Session, u32> {
-    if bytes.len() < HEADER_LEN || u32_at(bytes, HEADER_LEN - 4) as usize != bytes.len() {
+    if bytes.len() < HEADER_LEN || u32_at(bytes, TOTAL_AT) as usize != bytes.len() {
         return Err(1);
     }
-    let h = |field: usize| u32_at(bytes, 4 * field);
+    let h = |at: usize| u32_at(bytes, at);
+    let (textures, views, passes) = (h(TEXTURE_COUNT_AT), h(VIEW_COUNT_AT), h(PASS_COUNT_AT));
     let lawful = [
-        h(0) <= MAX_TEXTURES,
-        h(2) <= MAX_VIEWS,
-        h(4) <= MAX_PASSES,
-        (1..=8).contains(&h(6)),
-        h(7) <= 32,
-        h(8) <= 15,
+        textures <= MAX_TEXTURES,
+        views <= MAX_VIEWS,
+        passes <= MAX_PASSES,
+        (1..=SLOTS as u32).contains(&h(MAX_COLOURS_AT)),
+        h(MAX_VIEWS_AT) <= MAX_MULTIVIEW,
+        h(FLAGS_AT) <= ALL_FLAGS,
     ];
     if lawful.contains(&false) {
         return Err(2);
     }
-    let views_at = HEADER_LEN + h(0) as usize * TEXTURE_LEN;
-    let passes_at = views_at + h(2) as usize * VIEW_LEN;
-    let end = passes_at + h(4) as usize * PASS_LEN;
-    let offsets = [h(1) as usize, h(3) as usize, h(5) as usize, h(9) as usize];
-    if offsets != [HEADER_LEN, views_at, passes_at, end] {
+    let views_at = HEADER_LEN + textures as usize * TEXTURE_LEN;
+    let passes_at = views_at + views as usize * VIEW_LEN;
+    let end = passes_at + passes as usize * PASS_LEN;
+    let offsets = [TEXTURE_OFFSET_AT, VIEW_OFFSET_AT, PASS_OFFSET_AT, TOTAL_AT];
+    if offsets.map(|at| h(at) as usize) != [HEADER_LEN, views_at, passes_at, end] {
         return Err(2);
     }
     let mut session = Session {
-        max_colours: h(6),
-        max_views: h(7),
-        flags: h(8),
+        max_colours: h(MAX_COLOURS_AT),
+        max_views: h(MAX_VIEWS_AT),
+        flags: h(FLAGS_AT),
         textures: Vec::new(),
         views: Vec::new(),
         passes: Vec::new(),
     };
-    for i in 0..h(0) as usize {
+    for i in 0..textures as usize {
         let row = texture(bytes, HEADER_LEN + i * TEXTURE_LEN).ok_or(3u32)?;
         session.textures.push(row);
     }
     if session.surfaces() > MAX_SURFACES as usize {
         return Err(3);
     }
-    for i in 0..h(2) as usize {
+    for i in 0..views as usize {
         let row = view(bytes, views_at + i * VIEW_LEN, &session.textures).ok_or(4u32)?;
         session.views.push(View {
             number: i as u32,
             ..row
         });
     }
-    for i in 0..h(4) as usize {
+    for i in 0..passes as usize {
         let at = passes_at + i * PASS_LEN;
         session.passes.push(PassRow {
-            ends: u32_at(bytes, at + 8),
+            ends: u32_at(bytes, at + PASS_ENDS_AT),
             pass: pass(bytes, at, &session.views),
         });
     }
@@ -192,18 +193,18 @@ impl Session {
 
 /// A texture row, unless a field refuses it.
 fn texture(bytes: &[u8], at: usize) -> Option<Texture> {
-    let f: [u32; 8] = std::array::from_fn(|i| u32_at(bytes, at + 4 * i));
+    let f: [u32; TEXTURE_FIELDS] = std::array::from_fn(|i| u32_at(bytes, at + FIELD_LEN * i));
     let [format, dimension, width, height, depth, mips, samples, usage] = f;
-    let size = 1..=16384;
+    let size = 1..=MAX_SIZE;
     let lawful = matches!(format, 1..=14 | 20..=25)
         && matches!(dimension, 1..=3)
         && (format < 20 || dimension == 2)
         && size.contains(&width)
         && size.contains(&height)
-        && matches!(depth, 1..=32)
-        && matches!(mips, 1..=15)
-        && [1, 2, 4, 8, 16].contains(&samples)
-        && usage < 64;
+        && matches!(depth, 1..=MAX_LAYERS)
+        && matches!(mips, 1..=MAX_MIPS)
+        && SAMPLES.contains(&samples)
+        && usage <= ALL_USAGES;
     lawful.then_some(Texture {
         format,
         dimension,
@@ -219,7 +220,7 @@ fn texture(bytes: &[u8], at: usize) -> Option<Texture> {
 
 /// A view row, unless a field refuses it.
 fn view(bytes: &[u8], at: usize, textures: &[Texture]) -> Option<View> {
-    let f: [u32; 8] = std::array::from_fn(|i| u32_at(bytes, at + 4 * i));
+    let f: [u32; VIEW_FIELDS] = std::array::from_fn(|i| u32_at(bytes, at + FIELD_LEN * i));
     let [texture, dimension, mip, mips, layer, layers, usage, resolvable] = f;
     let t = textures.get(texture as usize)?;
     let pair = match t.dimension {
@@ -269,21 +270,21 @@ fn flag(value: u32) -> Option<bool> {
 /// A pass row, unless a field refuses it as 5.
 fn pass(bytes: &[u8], at: usize, views: &[View]) -> Option<Pass> {
     let count = u32_at(bytes, at) as usize;
-    flag(u32_at(bytes, at + 8))?;
+    flag(u32_at(bytes, at + PASS_ENDS_AT))?;
     if count > SLOTS {
         return None;
     }
-    let depth_stencil = match u32_at(bytes, at + 12) {
+    let depth_stencil = match u32_at(bytes, at + 3 * FIELD_LEN) {
         NONE => None,
         number => Some(DepthStencil {
             view: *views.get(number as usize)?,
-            depth: channel(bytes, at + 16)?,
-            stencil: channel(bytes, at + 16 + CHANNEL_LEN)?,
+            depth: channel(bytes, at + DEPTH_AT)?,
+            stencil: channel(bytes, at + DEPTH_AT + CHANNEL_LEN)?,
         }),
     };
     let slot = |k: usize| colour(bytes, at + PASS_FRONT_LEN + k * SLOT_LEN, views);
     Some(Pass {
-        mask: u32_at(bytes, at + 4),
+        mask: u32_at(bytes, at + FIELD_LEN),
         depth_stencil,
         colours: (0..count).map(slot).collect::<Option<Vec<_>>>()?,
     })
@@ -291,19 +292,20 @@ fn pass(bytes: &[u8], at: usize, views: &[View]) -> Option<Pass> {
 
 /// A channel, unless a field refuses it.
 fn channel(bytes: &[u8], at: usize) -> Option<Channel> {
-    let read_only = flag(u32_at(bytes, at + 8))?;
-    let given = flag(u32_at(bytes, at + 12))?;
+    let field = |k: usize| u32_at(bytes, at + FIELD_LEN * k);
+    let read_only = flag(field(2))?;
+    let given = flag(field(3))?;
     Some(Channel {
-        load: match u32_at(bytes, at) {
+        load: match field(0) {
             NO_LOAD => None,
             value => Some(load(value)?),
         },
-        store: match u32_at(bytes, at + 4) {
+        store: match field(1) {
             NO_STORE => None,
             value => Some(store(value)?),
         },
         read_only,
-        clear: given.then(|| u32_at(bytes, at + 16)),
+        clear: given.then(|| field(4)),
     })
 }
 
@@ -328,21 +330,22 @@ fn store(value: u32) -> Option<Store> {
 
 /// A colour slot, empty or filled, unless a field refuses it.
 fn colour(bytes: &[u8], at: usize, views: &[View]) -> Option<Option<Colour>> {
-    let number = u32_at(bytes, at);
+    let field = |k: usize| u32_at(bytes, at + FIELD_LEN * k);
+    let number = field(0);
     if number == NONE {
         return Some(None);
     }
-    let given = flag(u32_at(bytes, at + 4))?;
-    let resolve = match u32_at(bytes, at + 12) {
+    let given = flag(field(1))?;
+    let resolve = match field(3) {
         NONE => None,
         target => Some(*views.get(target as usize)?),
     };
     Some(Some(Colour {
         view: *views.get(number as usize)?,
-        slice: given.then(|| u32_at(bytes, at + 8)),
+        slice: given.then(|| field(2)),
         resolve,
-        load: load(u32_at(bytes, at + 16))?,
-        store: store(u32_at(bytes, at + 20))?,
-        clear: std::array::from_fn(|i| u64_at(bytes, at + 24 + 8 * i)),
+        load: load(field(4))?,
+        store: store(field(5))?,
+        clear: std::array::from_fn(|i| u64_at(bytes, at + SLOT_CLEAR_AT + COLOR_NUMBER_LEN * i)),
     }))
 }

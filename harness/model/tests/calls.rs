@@ -2,6 +2,7 @@
 //! status byte, and what is printed.
 
 use model::{check_pass, deskcheck, run, submit, Lent};
+use sessions::layout::{ACTIONS, CLEARS, DISCARDS, SLOTS, STATUS_LEN};
 use sessions::reply::{Action, Kind, Surface};
 use sessions::text;
 
@@ -13,9 +14,7 @@ const A: Surface = Surface {
 
 /// One texture, one view; Clear with Discard, then Load with Store.
 fn example() -> Vec<u8> {
-    let text = "texture\nview\npass\n  colour view=0 load=clear store=discard\n\
-                pass\n  colour view=0 load=load store=store";
-    text::to_bytes(text).unwrap()
+    text::document_01()
 }
 
 #[test]
@@ -52,10 +51,10 @@ fn both(bytes: &[u8], lent: &Lent) -> u32 {
 #[test]
 fn a_short_buffer_is_6_before_all_else() {
     let short = [
-        lent(|l| l.discard_room = 63),
-        lent(|l| l.action_room = 511),
-        lent(|l| l.clear_room = 79),
-        lent(|l| l.status.truncate(4095)),
+        lent(|l| l.discard_room = DISCARDS - 1),
+        lent(|l| l.action_room = ACTIONS - 1),
+        lent(|l| l.clear_room = CLEARS - 1),
+        lent(|l| l.status.truncate(STATUS_LEN - 1)),
     ];
     for lent in short {
         assert_eq!(both(&example(), &lent), 6);
@@ -78,9 +77,9 @@ fn counts_records_and_status_bytes_are_6_after_4() {
         layers,
     };
     let wrong = [
-        lent(|l| l.lists.discards = vec![A; 65]),
-        lent(|l| l.lists.actions = vec![action(0, (0, 1), (0, 1)); 513]),
-        lent(|l| l.clears = vec![A; 81]),
+        lent(|l| l.lists.discards = vec![A; DISCARDS + 1]),
+        lent(|l| l.lists.actions = vec![action(0, (0, 1), (0, 1)); ACTIONS + 1]),
+        lent(|l| l.clears = vec![A; CLEARS + 1]),
         lent(|l| l.lists.discards.push(other(1, 0, 0))),
         lent(|l| l.lists.discards.push(other(0, 1, 0))),
         lent(|l| l.clears.push(other(0, 0, 1))),
@@ -101,7 +100,7 @@ fn counts_records_and_status_bytes_are_6_after_4() {
         "past the last surface"
     );
     assert_eq!(both(&example(), &lent(|l| l.status[0] = 3)), 0);
-    assert_eq!(both(&example(), &lent(|l| l.clears = vec![A; 80])), 0);
+    assert_eq!(both(&example(), &lent(|l| l.clears = vec![A; CLEARS])), 0);
 }
 
 #[test]
@@ -127,8 +126,8 @@ fn refusal_49_comes_before_50() {
             mips: (0, 1),
             layers: (0, 1),
         };
-        l.lists.discards = vec![held; 64];
-        l.lists.actions = vec![action; 512];
+        l.lists.discards = vec![held; DISCARDS];
+        l.lists.actions = vec![action; ACTIONS];
     });
     let number = |pass: usize| check_pass(&bytes, pass, &mut full.clone()).refusal;
     assert_eq!([number(0), number(1), number(2)], [49, 50, 49]);
@@ -137,12 +136,12 @@ fn refusal_49_comes_before_50() {
 #[test]
 fn a_load_with_discard_keeps_the_list_at_64() {
     let bytes = text::to_bytes("texture\nview\npass\n  colour view=0 load=load store=discard");
-    let mut full = lent(|l| l.lists.discards = vec![A; 64]);
+    let mut full = lent(|l| l.lists.discards = vec![A; DISCARDS]);
     let reply = check_pass(&bytes.unwrap(), 0, &mut full);
-    assert_eq!((reply.refusal, reply.clears.len()), (0, 64));
+    assert_eq!((reply.refusal, reply.clears.len()), (0, DISCARDS));
     assert_eq!(full.lists.discards, [A]);
-    assert_eq!(full.lists.actions.len(), 65);
-    assert_eq!(full.clears.len(), 64);
+    assert_eq!(full.lists.actions.len(), 1 + DISCARDS);
+    assert_eq!(full.clears.len(), DISCARDS);
 }
 
 #[test]
@@ -151,9 +150,9 @@ fn at_most_71_clears_in_one_pass() {
         .map(|k| format!("  colour view=0 slice={k} load=load store=discard\n"))
         .collect();
     let text = format!("texture dimension=3 layers=8\nview dimension=D3\npass\n{slots}");
-    let mut full = lent(|l| l.lists.discards = vec![A; 64]);
+    let mut full = lent(|l| l.lists.discards = vec![A; DISCARDS]);
     let reply = check_pass(&text::to_bytes(&text).unwrap(), 0, &mut full);
-    assert_eq!(reply.clears.len(), 71);
+    assert_eq!(reply.clears.len(), DISCARDS + SLOTS - 1);
 }
 
 #[test]

@@ -2,6 +2,7 @@
 
 use checks::examples::sessions;
 use program::deskcheck;
+use sessions::layout::{HEADER_LEN, LONGEST, MAX_PASSES, TOTAL_AT};
 use sessions::random::{self, Prng};
 
 #[test]
@@ -25,22 +26,22 @@ fn random_sessions() {
 #[test]
 fn empty_short_and_long_input() {
     assert_eq!(deskcheck(&[]), "session 1\n");
-    assert_eq!(deskcheck(&[0; 39]), "session 1\n");
-    assert_eq!(deskcheck(&[0; 40]), "session 1\n");
+    assert_eq!(deskcheck(&[0; HEADER_LEN - 1]), "session 1\n");
+    assert_eq!(deskcheck(&[0; HEADER_LEN]), "session 1\n");
     for (length, field) in [
-        (60_680, 60_680u32),
-        (60_681, 60_681),
-        (60_681, 60_680),
+        (LONGEST, LONGEST),
+        (LONGEST + 1, LONGEST + 1),
+        (LONGEST + 1, LONGEST),
         (65_536, 65_536),
         (65_537, 65_536),
         (70_000, 70_000),
-        (70_000, 60_680),
+        (70_000, LONGEST),
         (1_000_000, 1_000_000),
         (1_000_000, 65_536),
     ] {
         let mut bytes = vec![0; length];
-        bytes[36..40].copy_from_slice(&field.to_le_bytes());
-        let number = if field as usize == length { 2 } else { 1 };
+        bytes[TOTAL_AT..HEADER_LEN].copy_from_slice(&(field as u32).to_le_bytes());
+        let number = if field == length { 2 } else { 1 };
         assert_eq!(
             deskcheck(&bytes),
             format!("session {number}\n"),
@@ -53,13 +54,14 @@ fn empty_short_and_long_input() {
 fn the_longest_session() {
     let mut prng = Prng::new(1);
     let mut session = random::session(&mut prng);
-    while session.passes.len() < 100 {
+    let most = MAX_PASSES as usize;
+    while session.passes.len() < most {
         let more = session.passes.clone();
         session.passes.extend(more);
-        session.passes.truncate(100);
+        session.passes.truncate(most);
     }
     let bytes = session.to_bytes();
     let printed = deskcheck(&bytes);
-    assert_eq!(printed.lines().count(), 100);
+    assert_eq!(printed.lines().count(), most);
     assert_eq!(printed, model::deskcheck(&bytes));
 }

@@ -2,6 +2,7 @@
 
 use checks::examples::{numbers, of_number, sessions};
 use checks::whole;
+use desk::layout::DISCARDS;
 use desk::{check, check_pass, submit_buffer, Library, Lists};
 
 #[test]
@@ -43,7 +44,7 @@ fn number_6_is_given_by_a_short_buffer_and_by_a_count() {
     let mut short = Lists::fresh();
     short.clears.pop();
     let mut count = Lists::fresh();
-    count.discards[0] = 65;
+    count.discards[0] = DISCARDS as u8 + 1;
     for lists in [short, count] {
         let mut lent = lists.clone();
         assert_eq!(check_pass(&bytes, 0, &mut lent).number, 6);

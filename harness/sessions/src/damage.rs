@@ -1,6 +1,6 @@
 //! Damaged copies of a file: one change each.
 
-use crate::layout::HEADER_LEN;
+use crate::layout::{FIELD_LEN, HEADER_FIELDS, HEADER_LEN, TOTAL_AT};
 use crate::random::Prng;
 use crate::rows::{Header, Row};
 
@@ -13,10 +13,10 @@ pub fn flip_bit(bytes: &[u8], bit: usize) -> Vec<u8> {
 
 /// A copy with one header field changed by `step`, wrapping.
 pub fn shift_header_field(bytes: &[u8], field: usize, step: i32) -> Vec<u8> {
-    let at = field * 4;
+    let at = field * FIELD_LEN;
     let mut copy = bytes.to_vec();
     let value = u32::from_le_bytes([copy[at], copy[at + 1], copy[at + 2], copy[at + 3]]);
-    copy[at..at + 4].copy_from_slice(&value.wrapping_add_signed(step).to_le_bytes());
+    copy[at..at + FIELD_LEN].copy_from_slice(&value.wrapping_add_signed(step).to_le_bytes());
     copy
 }
 
@@ -25,7 +25,7 @@ pub fn resize(bytes: &[u8], length: usize, told: bool) -> Vec<u8> {
     let mut copy = bytes.to_vec();
     copy.resize(length, 0);
     if told && length >= HEADER_LEN {
-        copy[HEADER_LEN - 4..HEADER_LEN].copy_from_slice(&(length as u32).to_le_bytes());
+        copy[TOTAL_AT..HEADER_LEN].copy_from_slice(&(length as u32).to_le_bytes());
     }
     copy
 }
@@ -33,9 +33,8 @@ pub fn resize(bytes: &[u8], length: usize, told: bool) -> Vec<u8> {
 /// Every damaged copy of a systematic set: each header field off by one, the lengths around
 /// the file's own and the header's, told and untold, and every bit of the header.
 pub fn systematic(bytes: &[u8]) -> Vec<Vec<u8>> {
-    let fields = HEADER_LEN / 4;
     let off_by_one =
-        (0..fields).flat_map(|f| [-1, 1].map(|step| shift_header_field(bytes, f, step)));
+        (0..HEADER_FIELDS).flat_map(|f| [-1, 1].map(|step| shift_header_field(bytes, f, step)));
     let near = |length: usize| length.saturating_sub(1)..=length + 1;
     let lengths = (0..=1)
         .chain(near(HEADER_LEN))
@@ -55,7 +54,11 @@ pub fn random(bytes: &[u8], prng: &mut Prng) -> Vec<u8> {
     match prng.below(8) {
         0 => resize(bytes, prng.below(bytes.len() as u32 + 1) as usize, told),
         1 => resize(bytes, bytes.len() + 1 + prng.below(600) as usize, told),
-        2 => shift_header_field(bytes, prng.below(10) as usize, prng.pick(&[-1, 1])),
+        2 => shift_header_field(
+            bytes,
+            prng.below(HEADER_FIELDS as u32) as usize,
+            prng.pick(&[-1, 1]),
+        ),
         3 => flip_bit(bytes, prng.below(bytes.len() as u32 * 8) as usize),
         _ => random_field(bytes, prng),
     }
@@ -73,17 +76,17 @@ fn random_field(bytes: &[u8], prng: &mut Prng) -> Vec<u8> {
         bytes.len(),
     ];
     let part = prng.below(4) as usize;
-    let fields = ends[part + 1].saturating_sub(ends[part]) / 4;
+    let fields = ends[part + 1].saturating_sub(ends[part]) / FIELD_LEN;
     if fields == 0 || ends[part + 1] > bytes.len() {
         return flip_bit(bytes, prng.below(bytes.len() as u32 * 8) as usize);
     }
-    let at = ends[part] + prng.below(fields as u32) as usize * 4;
+    let at = ends[part] + prng.below(fields as u32) as usize * FIELD_LEN;
     let value = match prng.below(3) {
         0 => prng.below(70),
         1 => u32::MAX - prng.below(3),
         _ => prng.bits() as u32,
     };
     let mut copy = bytes.to_vec();
-    copy[at..at + 4].copy_from_slice(&value.to_le_bytes());
+    copy[at..at + FIELD_LEN].copy_from_slice(&value.to_le_bytes());
     copy
 }

@@ -34,8 +34,8 @@ fn header_fits(h: &Header) -> bool {
         && u64::from(h.view_offset) == views_at
         && u64::from(h.pass_offset) == passes_at
         && (1..=SLOTS as u32).contains(&h.max_colours)
-        && h.max_views <= 32
-        && h.flags <= 15
+        && h.max_views <= MAX_MULTIVIEW
+        && h.flags <= ALL_FLAGS
         && u64::from(h.total) == end
 }
 
@@ -45,12 +45,12 @@ fn texture_fits(t: &Texture) -> bool {
     let depth_stencil = (20..=25).contains(&t.format) && t.dimension == 2;
     (colour || depth_stencil)
         && (1..=3).contains(&t.dimension)
-        && (1..=16384).contains(&t.width)
-        && (1..=16384).contains(&t.height)
-        && (1..=32).contains(&t.depth_or_layers)
-        && (1..=15).contains(&t.mips)
-        && matches!(t.samples, 1 | 2 | 4 | 8 | 16)
-        && t.usage <= 63
+        && (1..=MAX_SIZE).contains(&t.width)
+        && (1..=MAX_SIZE).contains(&t.height)
+        && (1..=MAX_LAYERS).contains(&t.depth_or_layers)
+        && (1..=MAX_MIPS).contains(&t.mips)
+        && SAMPLES.contains(&t.samples)
+        && t.usage <= ALL_USAGES
 }
 
 /// Layers of a texture: a 3D texture has one.

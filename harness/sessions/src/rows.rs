@@ -166,7 +166,7 @@ pub const PLAIN_VIEW: View = View {
 pub trait Row: Sized {
     /// Bytes of the row.
     const LEN: usize;
-    /// The row with these fields; there are `LEN / 4` of them.
+    /// The row with these fields; there are `LEN / FIELD_LEN` of them.
     fn from_fields(fields: &[u32]) -> Self;
     /// The row's fields in file order.
     fn fields(&self) -> Vec<u32>;
@@ -174,7 +174,7 @@ pub trait Row: Sized {
     /// The row whose bytes start at `at`, or none where the file ends before it.
     fn read(bytes: &[u8], at: usize) -> Option<Self> {
         let row = bytes.get(at..at.checked_add(Self::LEN)?)?;
-        let fields: Vec<u32> = row.chunks_exact(4).map(le_u32).collect();
+        let fields: Vec<u32> = row.chunks_exact(FIELD_LEN).map(le_u32).collect();
         Some(Self::from_fields(&fields))
     }
 
@@ -345,15 +345,16 @@ impl Row for Pass {
     const LEN: usize = PASS_LEN;
 
     fn from_fields(f: &[u32]) -> Self {
-        let front = PASS_FRONT_LEN / 4;
-        let slot = |k: usize| Slot::from_fields(&f[front + k * SLOT_LEN / 4..]);
+        let (depth, stencil) = (PASS_OWN_FIELDS, PASS_OWN_FIELDS + CHANNEL_FIELDS);
+        let slots = PASS_FRONT_LEN / FIELD_LEN;
+        let slot = |k: usize| Slot::from_fields(&f[slots + k * SLOT_LEN / FIELD_LEN..]);
         Pass {
             colours: f[0],
             mask: f[1],
             ends: f[2],
             depth_stencil: f[3],
-            depth: Channel::from_fields(&f[4..9]),
-            stencil: Channel::from_fields(&f[9..14]),
+            depth: Channel::from_fields(&f[depth..stencil]),
+            stencil: Channel::from_fields(&f[stencil..slots]),
             slots: std::array::from_fn(slot),
         }
     }

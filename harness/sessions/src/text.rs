@@ -116,6 +116,15 @@ pub fn to_bytes(text: &str) -> Result<Vec<u8>, String> {
     maker.finish()
 }
 
+/// Document 01's example: Clear with Discard, then Load with Store, in one buffer.
+const DOCUMENT_01: &str = "texture\nview\npass\n  colour view=0 load=clear store=discard\n\
+                           pass\n  colour view=0 load=load store=store";
+
+/// The bytes of document 01's example, without a flag.
+pub fn document_01() -> Vec<u8> {
+    to_bytes(DOCUMENT_01).expect("a right text")
+}
+
 /// The row that `again` repeats.
 #[derive(Clone, Copy, PartialEq)]
 enum Last {
@@ -295,7 +304,7 @@ impl Maker {
         }
         let mut bytes = self.session.to_bytes();
         for (at, value) in self.header {
-            bytes[at * 4..at * 4 + 4].copy_from_slice(&value.to_le_bytes());
+            bytes[at * FIELD_LEN..(at + 1) * FIELD_LEN].copy_from_slice(&value.to_le_bytes());
         }
         if let Some(length) = self.length {
             bytes.resize(length, 0);

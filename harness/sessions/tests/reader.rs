@@ -22,14 +22,18 @@ fn lengths() {
     for length in 0..bytes.len() {
         assert_eq!(read(&bytes[..length]), Err(1), "{length} bytes");
     }
-    let told = |length: u32, field: u32| {
-        let mut long = vec![0; length as usize];
-        long[36..40].copy_from_slice(&field.to_le_bytes());
+    let told = |length: usize, field: usize| {
+        let mut long = vec![0; length];
+        long[TOTAL_AT..HEADER_LEN].copy_from_slice(&(field as u32).to_le_bytes());
         read(&long).err()
     };
     assert_eq!(told(70000, 70000), Some(2));
-    assert_eq!(told(70000, 60680), Some(1));
-    assert_eq!(told(40, 40), Some(2), "offsets and colours are zero");
+    assert_eq!(told(70000, LONGEST), Some(1));
+    assert_eq!(
+        told(HEADER_LEN, HEADER_LEN),
+        Some(2),
+        "offsets and colours are zero"
+    );
 }
 
 #[test]
@@ -41,17 +45,21 @@ fn header_fields() {
     };
     assert_eq!(with(|s| s.max_colours = 0), 2);
     assert_eq!(with(|s| s.max_colours = 1), 0);
-    assert_eq!(with(|s| s.max_colours = 9), 2);
-    assert_eq!(with(|s| s.max_views = 32), 0);
-    assert_eq!(with(|s| s.max_views = 33), 2);
-    assert_eq!(with(|s| s.flags = 15), 0);
-    assert_eq!(with(|s| s.flags = 16), 2);
-    assert_eq!(with(|s| s.textures = vec![PLAIN_TEXTURE; 64]), 0);
-    assert_eq!(with(|s| s.textures = vec![PLAIN_TEXTURE; 65]), 2);
-    assert_eq!(with(|s| s.views = vec![PLAIN_VIEW; 256]), 0);
-    assert_eq!(with(|s| s.views = vec![PLAIN_VIEW; 257]), 2);
-    assert_eq!(with(|s| s.passes = vec![EMPTY_PASS; 100]), 0);
-    assert_eq!(with(|s| s.passes = vec![EMPTY_PASS; 101]), 2);
+    assert_eq!(with(|s| s.max_colours = SLOTS as u32), 0);
+    assert_eq!(with(|s| s.max_colours = SLOTS as u32 + 1), 2);
+    assert_eq!(with(|s| s.max_views = MAX_MULTIVIEW), 0);
+    assert_eq!(with(|s| s.max_views = MAX_MULTIVIEW + 1), 2);
+    assert_eq!(with(|s| s.flags = ALL_FLAGS), 0);
+    assert_eq!(with(|s| s.flags = ALL_FLAGS + 1), 2);
+    const TEXTURES: usize = MAX_TEXTURES as usize;
+    assert_eq!(with(|s| s.textures = vec![PLAIN_TEXTURE; TEXTURES]), 0);
+    assert_eq!(with(|s| s.textures = vec![PLAIN_TEXTURE; TEXTURES + 1]), 2);
+    const VIEWS: usize = MAX_VIEWS as usize;
+    assert_eq!(with(|s| s.views = vec![PLAIN_VIEW; VIEWS]), 0);
+    assert_eq!(with(|s| s.views = vec![PLAIN_VIEW; VIEWS + 1]), 2);
+    const PASSES: usize = MAX_PASSES as usize;
+    assert_eq!(with(|s| s.passes = vec![EMPTY_PASS; PASSES]), 0);
+    assert_eq!(with(|s| s.passes = vec![EMPTY_PASS; PASSES + 1]), 2);
 }
 
 #[test]
@@ -66,12 +74,12 @@ fn texture_fields() {
     let edges: [(usize, &[u32], &[u32]); 8] = [
         (0, &[1, 14, 20, 25], &[0, 15, 19, 26]),
         (1, &[1, 2, 3], &[0, 4]),
-        (2, &[1, 16384], &[0, 16385]),
-        (3, &[1, 16384], &[0, 16385]),
-        (4, &[1, 32], &[0, 33]),
-        (5, &[1, 15], &[0, 16]),
-        (6, &[1, 2, 4, 8, 16], &[0, 3, 5, 32]),
-        (7, &[0, 63], &[64]),
+        (2, &[1, MAX_SIZE], &[0, MAX_SIZE + 1]),
+        (3, &[1, MAX_SIZE], &[0, MAX_SIZE + 1]),
+        (4, &[1, MAX_LAYERS], &[0, MAX_LAYERS + 1]),
+        (5, &[1, MAX_MIPS], &[0, MAX_MIPS + 1]),
+        (6, &SAMPLES, &[0, 3, 5, 32]),
+        (7, &[0, ALL_USAGES], &[ALL_USAGES + 1]),
     ];
     for (at, lawful, unlawful) in edges {
         for value in lawful {
@@ -113,9 +121,14 @@ fn surfaces_are_counted_before_views() {
         session.views[0].layer_count = 99;
         number(&session)
     };
-    assert_eq!(with(2, 32, 8, 0), 4, "4096 surfaces");
-    assert_eq!(with(2, 32, 8, 1), 3, "4097 surfaces");
-    assert_eq!(with(3, 32, 8, 1), 4, "a 3D texture has one layer");
+    let mips = MAX_SURFACES / 16 / MAX_LAYERS;
+    assert_eq!(with(2, MAX_LAYERS, mips, 0), 4, "as many as may be");
+    assert_eq!(with(2, MAX_LAYERS, mips, 1), 3, "one more");
+    assert_eq!(
+        with(3, MAX_LAYERS, mips, 1),
+        4,
+        "a 3D texture has one layer"
+    );
 }
 
 #[test]

@@ -5,7 +5,10 @@ use std::hint::black_box;
 use std::time::Instant;
 
 use desk::Lists;
+use sessions::layout::*;
 use sessions::random::{self, Prng};
+use sessions::rows::PLAIN_TEXTURE;
+use sessions::{Session, Texture};
 
 /// Rounds of a measurement; the least counts.
 const ROUNDS: usize = 15;
@@ -26,86 +29,90 @@ fn least(calls: usize, mut call: impl FnMut()) -> f64 {
 /// A little-endian u32; 0 past the end.
 fn u32_at(bytes: &[u8], at: usize) -> u32 {
     bytes
-        .get(at..at + 4)
+        .get(at..at + FIELD_LEN)
         .map_or(0, |b| u32::from_le_bytes([b[0], b[1], b[2], b[3]]))
+}
+
+/// Field k of the row at a place.
+fn field(s: &[u8], row: usize, k: usize) -> u32 {
+    u32_at(s, row + FIELD_LEN * k)
 }
 
 /// Document 01's test of a texture row.
 fn texture_right(s: &[u8], at: usize) -> bool {
-    let field = |k: usize| u32_at(s, at + 4 * k);
-    let format = field(0);
+    let format = field(s, at, 0);
     ((1..=14).contains(&format) || (20..=25).contains(&format))
-        && (1..=3).contains(&field(1))
-        && (format < 20 || field(1) == 2)
-        && (1..=16384).contains(&field(2))
-        && (1..=16384).contains(&field(3))
-        && (1..=32).contains(&field(4))
-        && (1..=15).contains(&field(5))
-        && matches!(field(6), 1 | 2 | 4 | 8 | 16)
-        && field(7) <= 63
+        && (1..=3).contains(&field(s, at, 1))
+        && (format < 20 || field(s, at, 1) == 2)
+        && (1..=MAX_SIZE).contains(&field(s, at, 2))
+        && (1..=MAX_SIZE).contains(&field(s, at, 3))
+        && (1..=MAX_LAYERS).contains(&field(s, at, 4))
+        && (1..=MAX_MIPS).contains(&field(s, at, 5))
+        && SAMPLES.contains(&field(s, at, 6))
+        && field(s, at, 7) <= ALL_USAGES
 }
 
 /// Layers of a texture row: a 3D texture has one.
 fn layers(s: &[u8], at: usize) -> u32 {
-    if u32_at(s, at + 4) == 3 {
+    if field(s, at, 1) == 3 {
         1
     } else {
-        u32_at(s, at + 16)
+        field(s, at, 4)
     }
 }
 
 /// Document 01's test of a view row.
 fn view_right(s: &[u8], textures: u32, at: usize) -> bool {
-    let field = |k: usize| u32_at(s, at + 4 * k);
-    if field(0) >= textures {
+    if field(s, at, 0) >= textures {
         return false;
     }
-    let texture = 40 + 32 * field(0) as usize;
-    let fits = match field(1) {
-        1 => u32_at(s, texture + 4) == 1,
-        6 => u32_at(s, texture + 4) == 3,
-        2..=5 => u32_at(s, texture + 4) == 2,
+    let texture = HEADER_LEN + TEXTURE_LEN * field(s, at, 0) as usize;
+    let fits = match field(s, at, 1) {
+        D1 => field(s, texture, 1) == 1,
+        D3 => field(s, texture, 1) == 3,
+        D2..=CUBE_ARRAY => field(s, texture, 1) == 2,
         _ => false,
     };
     let within = |base: u32, count: u32, end: u32| {
         count >= 1 && u64::from(base) + u64::from(count) <= u64::from(end)
     };
-    fits && within(field(2), field(3), u32_at(s, texture + 20))
-        && within(field(4), field(5), layers(s, texture))
-        && field(6) & !u32_at(s, texture + 28) == 0
-        && field(7) <= 1
+    fits && within(field(s, at, 2), field(s, at, 3), field(s, texture, 5))
+        && within(field(s, at, 4), field(s, at, 5), layers(s, texture))
+        && field(s, at, 6) & !field(s, texture, 7) == 0
+        && field(s, at, 7) <= 1
 }
 
 /// The session's refusal, 1 to 4, or 0: a plain Rust reader that keeps nothing.
 fn refusal(s: &[u8]) -> u32 {
-    if s.len() < 40 || u32_at(s, 36) as usize != s.len() {
+    if s.len() < HEADER_LEN || u32_at(s, TOTAL_AT) as usize != s.len() {
         return 1;
     }
-    let (textures, views, passes) = (u32_at(s, 0), u32_at(s, 8), u32_at(s, 16));
-    if textures > 64 || views > 256 || passes > 100 {
+    let (textures, views) = (u32_at(s, TEXTURE_COUNT_AT), u32_at(s, VIEW_COUNT_AT));
+    let passes = u32_at(s, PASS_COUNT_AT);
+    if textures > MAX_TEXTURES || views > MAX_VIEWS || passes > MAX_PASSES {
         return 2;
     }
-    let view_start = 40 + 32 * textures as usize;
-    let pass_start = view_start + 32 * views as usize;
-    let right = u32_at(s, 4) == 40
-        && u32_at(s, 12) as usize == view_start
-        && u32_at(s, 20) as usize == pass_start
-        && (1..=8).contains(&u32_at(s, 24))
-        && u32_at(s, 28) <= 32
-        && u32_at(s, 32) <= 15
-        && pass_start + 504 * passes as usize == s.len();
+    let view_start = HEADER_LEN + TEXTURE_LEN * textures as usize;
+    let pass_start = view_start + VIEW_LEN * views as usize;
+    let right = u32_at(s, TEXTURE_OFFSET_AT) as usize == HEADER_LEN
+        && u32_at(s, VIEW_OFFSET_AT) as usize == view_start
+        && u32_at(s, PASS_OFFSET_AT) as usize == pass_start
+        && (1..=SLOTS as u32).contains(&u32_at(s, MAX_COLOURS_AT))
+        && u32_at(s, MAX_VIEWS_AT) <= MAX_MULTIVIEW
+        && u32_at(s, FLAGS_AT) <= ALL_FLAGS
+        && pass_start + PASS_LEN * passes as usize == s.len();
     if !right {
         return 2;
     }
-    let rows = (0..textures as usize).map(|k| 40 + 32 * k);
+    let rows = (0..textures as usize).map(|k| HEADER_LEN + TEXTURE_LEN * k);
     let surfaces: u64 = rows
         .clone()
-        .map(|at| u64::from(u32_at(s, at + 20)) * u64::from(layers(s, at)))
+        .map(|at| u64::from(field(s, at, 5)) * u64::from(layers(s, at)))
         .sum();
-    if !rows.clone().all(|at| texture_right(s, at)) || surfaces > 4096 {
+    if !rows.clone().all(|at| texture_right(s, at)) || surfaces > u64::from(MAX_SURFACES) {
         return 3;
     }
-    if !(0..views as usize).all(|k| view_right(s, textures, view_start + 32 * k)) {
+    if !(0..views as usize).all(|k| view_right(s, textures, view_start + VIEW_LEN * k)) {
         return 4;
     }
     0
@@ -130,14 +137,18 @@ fn reader(name: &str, file: &[u8]) {
     );
 }
 
-/// A session of so many textures of 15 mips and so many layers, with no views and no passes.
+/// A session of so many textures of so many mips and layers, with no views and no passes.
 fn textures_file(textures: u32, mips: u32, layers: u32) -> Vec<u8> {
-    let total = 40 + 32 * textures;
-    let mut words = vec![textures, 40, 0, total, 0, total, 8, 0, 0, total];
-    for _ in 0..textures {
-        words.extend([3, 2, 4, 4, layers, mips, 1, 16]);
-    }
-    words.iter().flat_map(|w| w.to_le_bytes()).collect()
+    let texture = Texture {
+        depth_or_layers: layers,
+        mips,
+        ..PLAIN_TEXTURE
+    };
+    let session = Session {
+        textures: vec![texture; textures as usize],
+        ..Session::new()
+    };
+    session.to_bytes()
 }
 
 /// A list of so many needing actions, each over the first mip of a texture.
@@ -181,18 +192,22 @@ fn main() {
     for k in [0, files.len() / 2, files.len() - 1] {
         reader("random", &files[k]);
     }
-    reader("64 textures", &textures_file(64, 2, 32));
+    let most = MAX_TEXTURES;
+    reader(
+        &format!("{most} textures"),
+        &textures_file(most, 2, MAX_LAYERS),
+    );
     println!();
     println!("| surfaces | actions | surfaces that they cover | ns |");
     println!("|---|---|---|---|");
     for (textures, mips, layers, count) in [
         (1, 1, 1, 0),
-        (16, 2, 32, 0),
-        (64, 2, 32, 0),
-        (64, 2, 32, 64),
-        (64, 2, 32, 256),
-        (64, 2, 32, 512),
-        (64, 2, 1, 512),
+        (16, 2, MAX_LAYERS, 0),
+        (most, 2, MAX_LAYERS, 0),
+        (most, 2, MAX_LAYERS, 64),
+        (most, 2, MAX_LAYERS, 256),
+        (most, 2, MAX_LAYERS, ACTIONS as u32),
+        (most, 2, 1, ACTIONS as u32),
     ] {
         submission(textures, mips, layers, count);
     }

@@ -8,7 +8,7 @@ use sessions::layout::*;
 use sessions::random::{self, Prng};
 use sessions::reader;
 use sessions::rows::{EMPTY_PASS, EMPTY_SLOT, PLAIN_TEXTURE, PLAIN_VIEW};
-use sessions::{Channel, Pass, Session, Slot, Texture, View};
+use sessions::{text, Channel, Pass, Session, Slot, Texture, View};
 
 use crate::timing::{pair, Pair};
 
@@ -29,19 +29,19 @@ pub fn growths() -> [Growth; 5] {
             name: "sessions-by-passes",
             title: "Whole sessions over passes",
             unit: "passes",
-            points: || grow(&[1, 2, 5, 10, 20, 40, 60, 80, 100], by_passes),
+            points: || grow(&[1, 2, 5, 10, 20, 40, 60, 80, MAX_PASSES], by_passes),
         },
         Growth {
             name: "sessions-by-views",
             title: "Whole sessions of ten passes over views",
             unit: "views",
-            points: || grow(&[1, 8, 32, 64, 128, 192, 256], by_views),
+            points: || grow(&[1, 8, 32, 64, 128, 192, MAX_VIEWS], by_views),
         },
         Growth {
             name: "sessions-by-surfaces",
             title: "Whole sessions of ten passes over surfaces",
             unit: "surfaces",
-            points: || grow(&[1, 64, 512, 1024, 2048, 3072, 4096], by_surfaces),
+            points: || grow(&[1, 64, 512, 1024, 2048, 3072, MAX_SURFACES], by_surfaces),
         },
         Growth {
             name: "passes-by-discards",
@@ -54,7 +54,7 @@ pub fn growths() -> [Growth; 5] {
             title: "Single passes over the session's views",
             unit: "views",
             points: || {
-                let sizes = [1, 8, 32, 64, 128, 192, 256];
+                let sizes = [1, 8, 32, 64, 128, 192, MAX_VIEWS];
                 sizes.map(|n| (n, passes_of(&by_views(n)))).to_vec()
             },
         },
@@ -111,20 +111,19 @@ fn comparable(seed: u64, count: usize) -> Vec<Vec<u8>> {
         .collect()
 }
 
-/// Document 01's example.
-fn example() -> Vec<u8> {
-    let mut all = checks::examples::sessions().into_iter();
-    let first = all.find(|(name, _)| name == "first");
-    first.expect("document 01's example").1
-}
-
 /// Whole sessions: document 01's example, random ones, and one of a hundred passes.
 pub fn whole_sessions() -> impl Iterator<Item = (String, Pair)> {
     let sets = [
-        ("document 01's example, 2 passes", vec![example()]),
+        ("document 01's example, 2 passes", vec![text::document_01()]),
         ("200 random sessions, on average", comparable(9, 200)),
-        ("100 passes of one slot", vec![by_passes(100).to_bytes()]),
-        ("100 passes of 17 attachments", vec![wide(100).to_bytes()]),
+        (
+            "100 passes of one slot",
+            vec![by_passes(MAX_PASSES).to_bytes()],
+        ),
+        (
+            "100 passes of 17 attachments",
+            vec![wide(MAX_PASSES).to_bytes()],
+        ),
     ];
     sets.into_iter()
         .map(|(name, files)| (name.to_string(), session_pair(&files)))
@@ -133,7 +132,7 @@ pub fn whole_sessions() -> impl Iterator<Item = (String, Pair)> {
 /// Reading only, with the file's length.
 pub fn reading() -> impl Iterator<Item = (String, usize, Pair)> {
     let files = [
-        ("document 01's example", example()),
+        ("document 01's example", text::document_01()),
         ("64 textures, 256 views, 100 passes", longest().to_bytes()),
     ];
     files.into_iter().map(|(name, file)| {
@@ -260,9 +259,9 @@ fn by_discards() -> Vec<(u32, Pair)> {
         }
         assert_eq!(lists.discards().len(), count as usize);
         let kept = run.kept();
-        let two = [63, 64];
+        let two = [DISCARDS as u32 - 1, DISCARDS as u32];
         let ours = || {
-            lists.actions[..4].fill(0);
+            lists.actions[..COUNT_LEN].fill(0);
             for pass in (0..PAIRS).flat_map(|_| two) {
                 black_box(&desk::check_pass(black_box(&file), pass, &mut lists));
             }
@@ -275,7 +274,9 @@ fn by_discards() -> Vec<(u32, Pair)> {
         };
         (count, pair(2 * PAIRS, ours, rust))
     };
-    [0, 1, 8, 16, 32, 48, 63].map(held).to_vec()
+    [0, 1, 8, 16, 32, 48, DISCARDS as u32 - 1]
+        .map(held)
+        .to_vec()
 }
 
 /// A slot of a view that clears and stores.
@@ -324,7 +325,7 @@ fn by_views(views: u32) -> Session {
 
 /// So many surfaces, ten passes over the first.
 fn by_surfaces(surfaces: u32) -> Session {
-    let layers = surfaces.min(32);
+    let layers = surfaces.min(MAX_LAYERS);
     let mips = (surfaces / layers).min(8);
     let texture = Texture {
         width: 256,
@@ -371,10 +372,10 @@ fn depth_and_colour() -> Session {
 fn wide(passes: u32) -> Session {
     let mut session = depth_and_colour();
     session.textures[0].samples = 4;
-    session.textures[0].depth_or_layers = 8;
+    session.textures[0].depth_or_layers = SLOTS as u32;
     session.textures[1].samples = 4;
     session.textures.push(Texture {
-        depth_or_layers: 8,
+        depth_or_layers: SLOTS as u32,
         ..PLAIN_TEXTURE
     });
     let depth_view = session.views[1];
@@ -383,16 +384,17 @@ fn wide(passes: u32) -> Session {
         base_layer,
         ..PLAIN_VIEW
     };
-    session.views = (0..8).map(|k| layer(0, k)).collect();
-    session.views.extend((0..8).map(|k| layer(2, k)));
+    let colours = SLOTS as u32;
+    session.views = (0..colours).map(|k| layer(0, k)).collect();
+    session.views.extend((0..colours).map(|k| layer(2, k)));
     session.views.push(depth_view);
     let slots: [Slot; SLOTS] = std::array::from_fn(|k| Slot {
-        resolve: 8 + k as u32,
+        resolve: colours + k as u32,
         ..clearing(k as u32)
     });
     let front = session.passes[0];
     let pass = Pass {
-        depth_stencil: 16,
+        depth_stencil: 2 * colours,
         depth: front.depth,
         stencil: front.stencil,
         ends: 1,
@@ -415,12 +417,12 @@ fn longest() -> Session {
 /// one that stores it.
 fn many_discards() -> Session {
     let layered = Texture {
-        depth_or_layers: 32,
+        depth_or_layers: MAX_LAYERS,
         ..PLAIN_TEXTURE
     };
     let layer = |k: u32| View {
-        texture: k / 32,
-        base_layer: k % 32,
+        texture: k / MAX_LAYERS,
+        base_layer: k % MAX_LAYERS,
         ..PLAIN_VIEW
     };
     let discarding = |view: u32| {
@@ -429,11 +431,11 @@ fn many_discards() -> Session {
             ..clearing(view)
         }])
     };
-    let mut passes: Vec<Pass> = (0..64).map(discarding).collect();
-    passes.push(pass_of(&[clearing(63)]));
+    let mut passes: Vec<Pass> = (0..DISCARDS as u32).map(discarding).collect();
+    passes.push(pass_of(&[clearing(DISCARDS as u32 - 1)]));
     Session {
         textures: vec![layered; 2],
-        views: (0..64).map(layer).collect(),
+        views: (0..DISCARDS as u32).map(layer).collect(),
         passes,
         ..Session::new()
     }
