@@ -2,18 +2,26 @@
  * The desk check: says of each render pass of a session file whether it would be accepted, and which
  * surfaces must be cleared first.
  *
- * Link target/staticlib/libdesk.a, which `rt staticlib desk` writes (x86-64 Linux). It needs nothing
- * beside it, allocates nothing, keeps nothing between calls and prints nothing. It exports the four
- * functions below, each proved against its contract in crates/desk.
+ * Link target/staticlib/libdesk.a, which `rt staticlib desk` writes (x86-64 Linux). Beside it the
+ * library needs memcpy and memset, as every C library has them, and nothing else. It allocates nothing,
+ * has no variables that outlive a call and prints nothing. It exports the four functions below, each
+ * proved against its contract in crates/desk.
  *
  * What holds of every function:
  *
  * - It tests all that it is handed; any bytes get an answer. Only the C rules of a pointer and its
- *   length are the caller's: each pointer points to so many bytes, also where the length is 0, and
- *   buffers of one call do not overlap.
+ *   length are the caller's: each pointer points to so many bytes, and buffers of one call do not
+ *   overlap. A pointer of length 0 may be NULL, for every argument: nothing is read or written through
+ *   it. A lent buffer of length 0 is answered 6, before all else; a session of length 0 is answered 1.
  * - Numbers in byte buffers are little-endian u32, at any alignment.
  * - A refusal leaves every byte of every buffer as it was.
+ * - Calls may run on several threads at once, unless one of them writes what another is handed. Two
+ *   threads may read one session.
+ * - DESKCHECK_STACK_LEN bytes of stack are enough. Measured on x86-64, with a caller's frame that has
+ *   room for a reply: about 19 KiB for deskcheck_session, 15 for deskcheck_submit, 10 for
+ *   deskcheck_pass, 1.4 for deskcheck_session_refusal.
  *
+ * harness/c/calls.c tries the last two and NULL, and prints the bytes of stack of each function.
  * harness/c/example.c is a whole program.
  */
 #ifndef DESKCHECK_H
@@ -36,7 +44,7 @@ extern "C" {
  *
  * Texture, 32 bytes: format, dimension (1 to 3), width, height (1 to 16384), depth or layers (1 to 32),
  * mips (1 to 15), samples (1, 2, 4, 8, 16), usage (4 texture binding, 16 render attachment,
- * 32 transient; 0 to 63).
+ * 32 transient; 0 to 63). A 3D texture has one layer, whatever its depth.
  * Formats: 1 r8unorm, 2 rg8unorm, 3 rgba8unorm, 4 rgba8unorm-srgb, 5 bgra8unorm, 6 bgra8unorm-srgb,
  * 7 r16float, 8 rg16float, 9 rgba16float, 10 r32float, 11 rg32float, 12 rgba32float, 13 rgb10a2unorm,
  * 14 rg11b10ufloat, 20 stencil8, 21 depth16unorm, 22 depth24plus, 23 depth24plus-stencil8,
@@ -50,16 +58,33 @@ extern "C" {
  * (0 Store, 1 Discard, 2 absent), read-only, clear given (0 or 1), clear (f32 bits; u32); then eight
  * colour slots of 56 bytes: view (4294967295 empty), slice given (0 or 1), slice, resolve view
  * (4294967295 none), load (0 to 2), store (0 or 1), and four f64: red, green, blue, alpha.
+ *
+ * The row of pass k of a readable session starts DESKCHECK_PASS_LEN * k bytes after the pass offset,
+ * the u32 at byte DESKCHECK_PASS_OFFSET_AT of the header. A buffer ends with a pass whose ends-buffer
+ * field is 1, and with the last pass, also where the pass is refused. A field above 1 is refused as 5
+ * and ends nothing, unless its pass is the last.
  */
 #define DESKCHECK_HEADER_LEN 40
 #define DESKCHECK_TEXTURE_LEN 32
 #define DESKCHECK_VIEW_LEN 32
-#define DESKCHECK_PASS_LEN 504
+#define DESKCHECK_SLOTS 8
+#define DESKCHECK_SLOT_LEN 56
+#define DESKCHECK_PASS_LEN (56 + DESKCHECK_SLOTS * DESKCHECK_SLOT_LEN)
 #define DESKCHECK_NO_VIEW UINT32_C(4294967295)
-/* Where the header has the pass count. */
+/* Where the header has the pass count, the pass offset and the total length. */
 #define DESKCHECK_PASS_COUNT_AT 16
-/* Where a pass row has its ends-buffer field. A buffer also ends with the last pass. */
+#define DESKCHECK_PASS_OFFSET_AT 20
+#define DESKCHECK_TOTAL_AT 36
+/* Where a pass row has its ends-buffer field. */
 #define DESKCHECK_PASS_ENDS_AT 8
+/* Most rows of a session, and its greatest length. */
+#define DESKCHECK_MOST_TEXTURES 64
+#define DESKCHECK_MOST_VIEWS 256
+#define DESKCHECK_MOST_PASSES 100
+#define DESKCHECK_MOST_SURFACES 4096
+#define DESKCHECK_LONGEST_SESSION \
+    (DESKCHECK_HEADER_LEN + DESKCHECK_MOST_TEXTURES * DESKCHECK_TEXTURE_LEN \
+     + DESKCHECK_MOST_VIEWS * DESKCHECK_VIEW_LEN + DESKCHECK_MOST_PASSES * DESKCHECK_PASS_LEN)
 
 /*
  * Numbers. 0 is accepted; 1 to 4 and 6 refuse the session or what is lent, the others one pass.
@@ -106,18 +131,48 @@ extern "C" {
  *  status    a byte a surface, by texture, mip, layer: 1 filled, plus 2 if the last submission
  *            cleared it
  *
+ * The status bytes of a texture follow those of the textures before it, a byte for each mip and layer.
+ * A 3D texture has one layer: behind one of depth 4 and one mip the next texture starts at byte 1.
+ *
  * A fresh session has counts 0 and status 0; records past a count may hold anything. Every buffer has
  * at least the length below: a shorter one is refused as 6, the further bytes of a longer one are
  * neither read nor written. Status bytes past the last surface are neither tested nor written.
  * From fresh lists, handed on from call to call of one session, 6 never arises.
  */
-#define DESKCHECK_DISCARDS_LEN 772
-#define DESKCHECK_ACTIONS_LEN 12292
-#define DESKCHECK_CLEARS_LEN 964
-#define DESKCHECK_STATUS_LEN 4096
-#define DESKCHECK_ROWS_LEN 3600
-#define DESKCHECK_ROW_LEN 36
-#define DESKCHECK_MOST_ATTACHMENTS 17
+#define DESKCHECK_COUNT_LEN 4
+#define DESKCHECK_SURFACE_LEN 12
+#define DESKCHECK_ACTION_LEN 24
+#define DESKCHECK_MOST_DISCARDS 64
+#define DESKCHECK_MOST_ACTIONS 512
+#define DESKCHECK_MOST_CLEARS 80
+#define DESKCHECK_DISCARDS_LEN (DESKCHECK_COUNT_LEN + DESKCHECK_MOST_DISCARDS * DESKCHECK_SURFACE_LEN)
+#define DESKCHECK_ACTIONS_LEN (DESKCHECK_COUNT_LEN + DESKCHECK_MOST_ACTIONS * DESKCHECK_ACTION_LEN)
+#define DESKCHECK_CLEARS_LEN (DESKCHECK_COUNT_LEN + DESKCHECK_MOST_CLEARS * DESKCHECK_SURFACE_LEN)
+#define DESKCHECK_STATUS_LEN DESKCHECK_MOST_SURFACES
+/* The rows of deskcheck_session: nine numbers a pass. */
+#define DESKCHECK_ROW_NUMBERS 9
+#define DESKCHECK_ROW_LEN (4 * DESKCHECK_ROW_NUMBERS)
+#define DESKCHECK_ROWS_LEN (DESKCHECK_MOST_PASSES * DESKCHECK_ROW_LEN)
+/* Depth-stencil, and each colour with its resolve target. */
+#define DESKCHECK_MOST_ATTACHMENTS (1 + 2 * DESKCHECK_SLOTS)
+/* Bytes of stack that are enough for any call. */
+#define DESKCHECK_STACK_LEN 32768
+
+/*
+ * What is promised of memory
+ *
+ * No unwritten or discarded memory becomes visible (docs/THEOREM.md) in a run of deskcheck_pass and
+ * deskcheck_submit, in any order, accepted or refused, where
+ *
+ * - the session is readable (deskcheck_session_refusal answers 0) and strict (flag 1), every view has
+ *   one layer, and no texture is 3D;
+ * - the buffers of the first call are fresh: counts 0, and DESKCHECK_STATUS_LEN status bytes of 0;
+ * - every call is handed that session, and each call after the first the buffers as the call before it
+ *   left them;
+ * - the box does what it is told: at a submission it zeroes each surface whose status byte then has 2,
+ *   and runs the passes accepted since the submission before, in order. Each pass zeroes its reply's
+ *   clears first, and its divergent aspect afterwards.
+ */
 
 /* A colour clear value. A NaN comes back as the canonical one, every other number bit for bit. */
 struct deskcheck_color {
@@ -176,9 +231,9 @@ uint32_t deskcheck_submit(const uint8_t *session, size_t session_len,
 
 /*
  * The whole session from fresh lists, with a submission at each buffer's end: 0, or 1 to 4, or 6 for
- * rows shorter than DESKCHECK_ROWS_LEN (first of all). After 0, pass k has nine numbers at 36 * k:
- * pass, refusal, place, earlier place, width, height, samples, clears returned, length of the discard
- * list before any submission. Bytes past the last row stay.
+ * rows shorter than DESKCHECK_ROWS_LEN (first of all). After 0, pass k has nine numbers from byte
+ * DESKCHECK_ROW_LEN * k on: pass, refusal, place, earlier place, width, height, samples, clears
+ * returned, length of the discard list before any submission. Bytes past the last row stay.
  */
 uint32_t deskcheck_session(const uint8_t *session, size_t session_len,
                            uint8_t *rows, size_t rows_len);

@@ -1,4 +1,4 @@
-/* Two discards, and a range that has the first. Prints how many stay, and which. */
+/* Two discards, and a range that has the first. Prints how many stay, and which; then the same of no list at all. */
 #include <stdio.h>
 
 #include "texture_surface_discards.h"
@@ -13,5 +13,6 @@ int main(void)
     printf("%zu listed, %zu with no room\n", n, deskcheck_discard(list, 2, n, first));
     n = deskcheck_retain(list, 2, n, range);
     printf("%zu stays: %u %u %u\n", n, list[0].texture, list[0].mip, list[0].layer);
+    printf("%zu and %zu of no list\n", deskcheck_discard(NULL, 0, 0, first), deskcheck_retain(NULL, 0, 0, range));
     return 0;
 }

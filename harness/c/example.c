@@ -45,16 +45,16 @@ static uint8_t *load(const char *name, size_t *length)
 }
 
 /* Whether a buffer ends with the pass: its field is 1, or it is the last. */
-static int ends_buffer(const uint8_t *session, size_t length, uint32_t pass, uint32_t passes)
+static int ends_buffer(const uint8_t *session, uint32_t pass, uint32_t passes)
 {
-    const uint8_t *row = session + length - (size_t)(passes - pass) * DESKCHECK_PASS_LEN;
+    const uint8_t *row = session + number_at(session + DESKCHECK_PASS_OFFSET_AT) + (size_t)pass * DESKCHECK_PASS_LEN;
     return number_at(row + DESKCHECK_PASS_ENDS_AT) == 1 || pass + 1 == passes;
 }
 
 /* Whether a row of the whole session has these nine numbers. */
 static int same_row(uint32_t pass, const uint32_t *numbers)
 {
-    for (int i = 0; i < 9; i++)
+    for (int i = 0; i < DESKCHECK_ROW_NUMBERS; i++)
         if (number_at(rows + pass * DESKCHECK_ROW_LEN + 4 * i) != numbers[i])
             return 0;
     return 1;
@@ -66,11 +66,11 @@ static int check_pass(const uint8_t *session, size_t length, uint32_t pass, uint
     struct deskcheck_reply r =
         deskcheck_pass(session, length, pass, discards, sizeof discards, actions, sizeof actions,
                        clears, sizeof clears, status, sizeof status);
-    const uint32_t line[9] = {pass,     r.number,  r.place,  r.earlier,          r.width,
-                              r.height, r.samples, r.clears, number_at(discards)};
-    for (int i = 0; i < 9; i++)
-        printf("%u%c", (unsigned)line[i], i == 8 ? '\n' : ' ');
-    if (ends_buffer(session, length, pass, passes)
+    const uint32_t line[DESKCHECK_ROW_NUMBERS] = {pass,     r.number,  r.place,  r.earlier,          r.width,
+                                                  r.height, r.samples, r.clears, number_at(discards)};
+    for (int i = 0; i < DESKCHECK_ROW_NUMBERS; i++)
+        printf("%u%c", (unsigned)line[i], i + 1 == DESKCHECK_ROW_NUMBERS ? '\n' : ' ');
+    if (ends_buffer(session, pass, passes)
         && deskcheck_submit(session, length, discards, sizeof discards, actions, sizeof actions,
                             clears, sizeof clears, status, sizeof status) != 0)
         return 0;

@@ -3,7 +3,8 @@
 use std::fs;
 use std::path::{Path, PathBuf};
 
-use compare::examples::{files, name};
+pub use compare::examples::files;
+use compare::examples::name;
 
 /// A file or folder of the repository.
 pub fn repository(path: &str) -> PathBuf {

@@ -24,6 +24,6 @@ fn a_c_caller_gets_the_same_answers() {
     gcc.arg(repository.join("target/staticlib/libmemory_init.a"));
     gcc.arg("-o").arg(&program);
     printed(&mut gcc);
-    let lines = "2 listed, 2 with no room\n1 stays: 4 0 7\n";
+    let lines = "2 listed, 2 with no room\n1 stays: 4 0 7\n0 and 0 of no list\n";
     assert_eq!(printed(&mut Command::new(&program)), lines);
 }

@@ -4,6 +4,7 @@ use checks::examples::{numbers, of_number, sessions};
 use checks::whole;
 use desk::layout::DISCARDS;
 use desk::{check, check_pass, submit_buffer, Library, Lists};
+use sessions::text;
 
 #[test]
 fn whole_sessions_are_the_models_lines() {
@@ -63,4 +64,15 @@ fn cleared_lists_are_as_good_as_fresh_ones() {
     lists.clear();
     assert_eq!(lists.counts(), [0; 3]);
     assert_eq!(check_pass(&bytes, 0, &mut lists).words(), first);
+}
+
+#[test]
+fn a_3d_texture_has_one_status_byte_a_mip() {
+    let text = "texture dimension=3 layers=4\ntexture\nview texture=1\n\
+                pass\n  colour view=0 load=load store=store";
+    let bytes = text::to_bytes(text).unwrap();
+    let mut lists = Lists::fresh();
+    assert_eq!(check_pass(&bytes, 0, &mut lists).number, 0);
+    assert_eq!(submit_buffer(&bytes, &mut lists), 0);
+    assert_eq!(lists.status[..3], [0, 3, 0]);
 }
