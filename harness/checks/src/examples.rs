@@ -1,10 +1,10 @@
 //! The files of `examples/`, and the table of `docs/REFUSALS.md`.
 
+use std::collections::BTreeSet;
 use std::fs;
 use std::path::{Path, PathBuf};
 
-pub use compare::examples::files;
-use compare::examples::name;
+pub use compare::examples::{files, name as stem};
 
 /// A file or folder of the repository.
 pub fn repository(path: &str) -> PathBuf {
@@ -21,13 +21,13 @@ pub fn sessions() -> Vec<(String, Vec<u8>)> {
 /// A file's name without its ending, and its bytes.
 fn named(path: &Path) -> (String, Vec<u8>) {
     let bytes = fs::read(path).expect("a readable example");
-    (name(path), bytes)
+    (stem(path), bytes)
 }
 
 /// The file of the example that shows a number.
 pub fn file_of_number(number: u32) -> Option<PathBuf> {
     let wanted = format!("refusal-{number}");
-    files("session").into_iter().find(|f| name(f) == wanted)
+    files("session").into_iter().find(|f| stem(f) == wanted)
 }
 
 /// The example that shows a number.
@@ -41,6 +41,14 @@ pub fn numbers() -> Vec<u32> {
     all.push(6);
     all.sort_unstable();
     all
+}
+
+/// What stands between backquotes in a text, line by line.
+pub fn quoted(text: &str) -> BTreeSet<String> {
+    let words = text
+        .lines()
+        .flat_map(|line| line.split('`').skip(1).step_by(2));
+    words.map(str::to_string).collect()
 }
 
 /// A row of the table of refusals.

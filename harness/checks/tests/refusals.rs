@@ -3,7 +3,7 @@
 use std::collections::BTreeSet;
 use std::fs;
 
-use checks::examples::{numbers, of_number, repository, table};
+use checks::examples::{files, numbers, of_number, quoted, repository, stem, table};
 
 /// The table's text.
 fn refusals() -> String {
@@ -30,13 +30,31 @@ fn each_row_names_its_example_and_the_example_gives_the_number() {
             assert!(row.example.starts_with("none"), "{row:?}");
             continue;
         }
-        let name = format!("`refusal-{}`", row.number);
-        assert!(row.example.contains(&name), "{row:?}");
-        let bytes = of_number(row.number).expect(&name);
-        let printed = model::deskcheck(&bytes);
-        let last = printed.lines().last().unwrap();
-        let number: u32 = last.split(' ').nth(1).unwrap().parse().unwrap();
-        assert_eq!(number, row.number, "{printed}");
+        let named = quoted(&row.example);
+        let own = format!("refusal-{}", row.number);
+        assert!(named.contains(&own), "{row:?}");
+        for name in named {
+            let file = files("session").into_iter().find(|f| stem(f) == name);
+            let bytes = fs::read(file.expect(&name)).unwrap();
+            let printed = model::deskcheck(&bytes);
+            let last = printed.lines().last().unwrap();
+            let number: u32 = last.split(' ').nth(1).unwrap().parse().unwrap();
+            assert_eq!(number, row.number, "{printed}");
+        }
+    }
+}
+
+#[test]
+fn each_example_of_a_refusal_is_named_and_so_are_those_of_the_order() {
+    let text = refusals();
+    let named = quoted(&text);
+    let made: Vec<String> = files("session").iter().map(|file| stem(file)).collect();
+    for name in made.iter().filter(|name| name.starts_with("refusal-")) {
+        assert!(named.contains(name), "{name}");
+    }
+    let of_the_order = named.iter().filter(|name| name.starts_with("corner-"));
+    for name in of_the_order {
+        assert!(made.contains(name), "{name}");
     }
 }
 

@@ -4,7 +4,7 @@ use std::collections::BTreeSet;
 use std::fs;
 use std::path::Path;
 
-use checks::examples::repository;
+use checks::examples::{quoted, repository};
 
 /// The names of the folders or files of a folder.
 fn entries(folder: &Path) -> Vec<String> {
@@ -39,14 +39,6 @@ fn of_the_definition() -> BTreeSet<String> {
     let folders = entries(&folder);
     let found = folders.iter().flat_map(|name| edits(&folder.join(name)));
     found.collect()
-}
-
-/// What stands between backquotes in a text.
-fn quoted(text: &str) -> BTreeSet<String> {
-    let words = text
-        .lines()
-        .flat_map(|line| line.split('`').skip(1).step_by(2));
-    words.map(str::to_string).collect()
 }
 
 /// Words that have the form of an edit's name: CRATE/NAME in small letters.
