@@ -12,5 +12,6 @@ pub mod reader;
 pub mod reply;
 pub mod rows;
 pub mod text;
+pub mod words;
 
 pub use rows::{Channel, Pass, Session, Slot, Texture, View};

@@ -1,104 +1,11 @@
 //! The text form of a session (`*.layer`), to bytes and back.
 //!
-//! A line is a word and `key=value` pairs; `#` starts a comment. A value is a number or a
-//! name of `names`, bits are joined with `+`. What is not said has the default.
-//!
-//! ```text
-//! session flags=strict max-colours=8 max-views=0
-//! texture format=rgba8unorm dimension=2 width=4 height=4 layers=1 mips=1 samples=1 usage=render
-//! view texture=0 dimension=D2 mip=0 mips=1 layer=0 layers=1 usage=render resolvable=1
-//! pass ends=0 mask=0
-//!   depth-stencil view=0
-//!   depth load=clear store=store clear=1.0
-//!   stencil load=clear store=discard clear=257
-//!   colour view=0 slice=3 resolve=1 load=clear store=discard clear=0,0,0,1
-//!   colour                      (an empty slot)
-//! again 3                       (the last texture, view or pass three times more)
-//! header total=41               (header fields that replace the right ones)
-//! length 39                     (the file's first bytes only, or zeros after it)
-//! ```
-//!
-//! A text that starts with `raw` has `bytes` lines of hexadecimal digits and nothing else.
+//! A line is a word and `key=value` pairs; `#` starts a comment. `examples/README.md` has the whole of
+//! it, and `words` the keys.
 
 use crate::layout::*;
-use crate::names::*;
 use crate::rows::*;
-
-/// How a field's number is written.
-enum Words {
-    /// A number.
-    Number,
-    /// A number or a name for it.
-    Names(&'static [(u32, &'static str)]),
-    /// A number or names of bits joined with `+`.
-    Bits(&'static [(u32, &'static str)]),
-}
-
-/// A field of a row: its key and how it is written.
-struct Key(&'static str, Words);
-
-/// The header's fields.
-const HEADER_KEYS: &[Key] = &[
-    Key("texture-count", Words::Number),
-    Key("texture-offset", Words::Number),
-    Key("view-count", Words::Number),
-    Key("view-offset", Words::Number),
-    Key("pass-count", Words::Number),
-    Key("pass-offset", Words::Number),
-    Key("max-colours", Words::Number),
-    Key("max-views", Words::Number),
-    Key("flags", Words::Bits(FLAGS)),
-    Key("total", Words::Number),
-];
-
-/// A texture row's fields.
-const TEXTURE_KEYS: &[Key] = &[
-    Key("format", Words::Names(FORMATS)),
-    Key("dimension", Words::Number),
-    Key("width", Words::Number),
-    Key("height", Words::Number),
-    Key("layers", Words::Number),
-    Key("mips", Words::Number),
-    Key("samples", Words::Number),
-    Key("usage", Words::Bits(USAGES)),
-];
-
-/// A view row's fields.
-const VIEW_KEYS: &[Key] = &[
-    Key("texture", Words::Number),
-    Key("dimension", Words::Names(VIEW_DIMENSIONS)),
-    Key("mip", Words::Number),
-    Key("mips", Words::Number),
-    Key("layer", Words::Number),
-    Key("layers", Words::Number),
-    Key("usage", Words::Bits(USAGES)),
-    Key("resolvable", Words::Number),
-];
-
-/// A pass row's own fields; its depth-stencil view stands in a line of its own.
-const PASS_KEYS: &[Key] = &[
-    Key("colours", Words::Number),
-    Key("mask", Words::Number),
-    Key("ends", Words::Number),
-];
-
-/// A channel's fields before its clear value.
-const CHANNEL_KEYS: &[Key] = &[
-    Key("load", Words::Names(LOADS)),
-    Key("store", Words::Names(STORES)),
-    Key("read-only", Words::Number),
-    Key("clear-given", Words::Number),
-];
-
-/// A colour slot's fields before its clear value.
-const SLOT_KEYS: &[Key] = &[
-    Key("view", Words::Names(VIEWS)),
-    Key("slice-given", Words::Number),
-    Key("slice", Words::Number),
-    Key("resolve", Words::Names(VIEWS)),
-    Key("load", Words::Names(LOADS)),
-    Key("store", Words::Names(STORES)),
-];
+use crate::words::*;
 
 /// The bytes that a text stands for, or what is wrong with it.
 pub fn to_bytes(text: &str) -> Result<Vec<u8>, String> {
@@ -134,6 +41,31 @@ enum Last {
     Pass,
 }
 
+/// How a line is taken: its words after the first.
+type Line = fn(&mut Maker, &[&str]) -> Result<(), String>;
+
+/// Every line by its first word.
+const LINES: &[(&str, Line)] = &[
+    ("session", Maker::session_line),
+    ("texture", Maker::texture_line),
+    ("view", Maker::view_line),
+    ("pass", Maker::pass_line),
+    ("depth-stencil", Maker::depth_stencil_line),
+    ("depth", Maker::depth_line),
+    ("stencil", Maker::stencil_line),
+    ("colour", Maker::colour_line),
+    ("again", Maker::again_line),
+    ("header", Maker::header_line),
+    ("length", Maker::length_line),
+    ("raw", Maker::raw_line),
+    ("bytes", Maker::bytes_line),
+];
+
+/// The first words of all lines.
+pub fn lines() -> impl Iterator<Item = &'static str> {
+    LINES.iter().map(|(name, _)| *name)
+}
+
 /// What the lines read so far stand for.
 struct Maker {
     session: Session,
@@ -167,28 +99,9 @@ impl Maker {
         let mut words = line.split_whitespace();
         let word = words.next().unwrap_or("");
         let rest: Vec<&str> = words.collect();
-        match word {
-            "session" => self.session_line(&rest),
-            "texture" => self.texture_line(&rest),
-            "view" => self.view_line(&rest),
-            "pass" => self.pass_line(&rest),
-            "depth-stencil" => self.depth_stencil_line(&rest),
-            "depth" => channel_line(&mut self.pass()?.depth, &rest, depth_bits),
-            "stencil" => channel_line(&mut self.pass()?.stencil, &rest, number),
-            "colour" => self.colour_line(&rest),
-            "again" => self.again(number(one(&rest)?)?),
-            "header" => self.header_line(&rest),
-            "length" => {
-                self.length = Some(number(one(&rest)?)? as usize);
-                Ok(())
-            }
-            "raw" => {
-                self.raw = Some(Vec::new());
-                Ok(())
-            }
-            "bytes" => self.bytes_line(&rest),
-            _ => Err(format!("no such line: {word}")),
-        }
+        let known = LINES.iter().find(|(name, _)| *name == word);
+        let (_, take) = known.ok_or_else(|| format!("no such line: {word}"))?;
+        take(self, &rest)
     }
 
     /// The pass that the line belongs to.
@@ -198,8 +111,13 @@ impl Maker {
 
     /// The header's settings.
     fn session_line(&mut self, pairs: &[&str]) -> Result<(), String> {
-        let mut header = self.session.header();
-        header = set(&header, HEADER_KEYS, pairs)?;
+        let keys = &HEADER_KEYS[SETTINGS];
+        let mut fields = self.session.header().fields();
+        for pair in pairs {
+            let (at, value) = key_value(keys, pair)?;
+            fields[SETTINGS.start + at] = value;
+        }
+        let header = Header::from_fields(&fields);
         self.session.max_colours = header.max_colours;
         self.session.max_views = header.max_views;
         self.session.flags = header.flags;
@@ -237,11 +155,21 @@ impl Maker {
     /// The depth-stencil view; channels that no line names have no operations.
     fn depth_stencil_line(&mut self, pairs: &[&str]) -> Result<(), String> {
         let pass = self.pass()?;
-        let fields = set_fields(vec![0], &[Key("view", Words::Names(VIEWS))], pairs)?;
+        let fields = set_fields(vec![0], DEPTH_STENCIL_KEYS, pairs)?;
         pass.depth_stencil = fields[0];
         pass.depth = NO_OPERATIONS;
         pass.stencil = NO_OPERATIONS;
         Ok(())
+    }
+
+    /// The depth channel.
+    fn depth_line(&mut self, pairs: &[&str]) -> Result<(), String> {
+        channel_line(&mut self.pass()?.depth, pairs, depth_bits)
+    }
+
+    /// The stencil channel.
+    fn stencil_line(&mut self, pairs: &[&str]) -> Result<(), String> {
+        channel_line(&mut self.pass()?.stencil, pairs, number)
     }
 
     /// The next colour slot; it counts unless the pass line gives the colour count.
@@ -267,8 +195,8 @@ impl Maker {
     }
 
     /// Repeats the last texture, view or pass.
-    fn again(&mut self, times: u32) -> Result<(), String> {
-        for _ in 0..times {
+    fn again_line(&mut self, words: &[&str]) -> Result<(), String> {
+        for _ in 0..number(one(words)?)? {
             match self.last {
                 Last::Nothing => return Err("nothing to repeat".into()),
                 Last::Texture => repeat_last(&mut self.session.textures),
@@ -285,6 +213,18 @@ impl Maker {
             let (at, value) = key_value(HEADER_KEYS, pair)?;
             self.header.push((at, value));
         }
+        Ok(())
+    }
+
+    /// Another length of the file.
+    fn length_line(&mut self, words: &[&str]) -> Result<(), String> {
+        self.length = Some(number(one(words)?)? as usize);
+        Ok(())
+    }
+
+    /// The file is told as bytes.
+    fn raw_line(&mut self, _: &[&str]) -> Result<(), String> {
+        self.raw = Some(Vec::new());
         Ok(())
     }
 
@@ -380,10 +320,10 @@ fn key_value(keys: &[Key], pair: &str) -> Result<(usize, u32), String> {
 fn read_value(words: &Words, value: &str) -> Result<u32, String> {
     match words {
         Words::Number => number(value),
-        Words::Names(names) => named(names, value),
-        Words::Bits(names) => value
+        Words::Names(kind) => named(kind.words, value),
+        Words::Bits(kind) => value
             .split('+')
-            .try_fold(0, |bits, word| Ok(bits | named(names, word)?)),
+            .try_fold(0, |bits, word| Ok(bits | named(kind.words, word)?)),
     }
 }
 
@@ -500,27 +440,6 @@ fn field_pairs(fields: &[u32], defaults: &[u32], keys: &[Key]) -> String {
         .filter(|(i, _)| fields[*i] != defaults[*i])
         .map(|(i, Key(name, words))| format!(" {name}={}", write_value(words, fields[i])))
         .collect()
-}
-
-/// A value by its name, where it has one.
-fn write_value(words: &Words, value: u32) -> String {
-    let name = match words {
-        Words::Number => None,
-        Words::Names(names) => names
-            .iter()
-            .find(|(v, _)| *v == value)
-            .map(|(_, name)| name.to_string()),
-        Words::Bits(names) => bit_names(names, value),
-    };
-    name.unwrap_or(value.to_string())
-}
-
-/// The names of the bits, where each has one.
-fn bit_names(names: &[(u32, &str)], value: u32) -> Option<String> {
-    let known: u32 = names.iter().map(|(bit, _)| bit).sum();
-    let set = names.iter().filter(|(bit, _)| value & bit != 0);
-    (value != 0 && value & !known == 0)
-        .then(|| set.map(|(_, name)| *name).collect::<Vec<_>>().join("+"))
 }
 
 /// A pass and its parts.
