@@ -11,6 +11,7 @@
 
 #include "deskcheck.h"
 
+/* Files and threads at most, rounds of each thread, bytes below a frame that are not painted, the paint, and the painted stack. */
 enum { MOST_FILES = 256, THREADS = 2, ROUNDS = 10, NOT_USED = 512, PAINT = 0xa5, ROOM = 16 * DESKCHECK_STACK_LEN };
 
 /* A session file. */
@@ -19,6 +20,7 @@ struct file {
     size_t length;
 };
 
+/* The files that are named. */
 static struct file files[MOST_FILES];
 static int file_count;
 
@@ -61,12 +63,14 @@ static int ends_buffer(const struct file *f, uint32_t pass, uint32_t passes)
     return number_at(row + DESKCHECK_PASS_ENDS_AT) == 1 || pass + 1 == passes;
 }
 
+/* The check of a pass on lists of full size. */
 static struct deskcheck_reply check(const struct file *f, uint32_t pass, struct lists *l)
 {
     return deskcheck_pass(f->bytes, f->length, pass, l->discards, sizeof l->discards, l->actions, sizeof l->actions,
                           l->clears, sizeof l->clears, l->status, sizeof l->status);
 }
 
+/* A submission of them. */
 static uint32_t submit(const struct file *f, struct lists *l)
 {
     return deskcheck_submit(f->bytes, f->length, l->discards, sizeof l->discards, l->actions, sizeof l->actions,
@@ -148,6 +152,7 @@ struct work {
     uint8_t rows[DESKCHECK_ROWS_LEN];
 };
 
+/* Answers all files in rounds, each round as the first. */
 static void *work(void *own)
 {
     struct work *w = own;
@@ -183,6 +188,7 @@ static int threads(void)
 
 /* ---- the stack */
 
+/* The painted stack, what each function took of it, and what is lent to the measured calls. */
 static _Alignas(64) uint8_t stack[ROOM];
 static const char *const names[] = {"refusal", "pass", "submit", "session"};
 static size_t taken[4];

@@ -123,7 +123,7 @@ fn macros() -> BTreeSet<String> {
 }
 
 #[test]
-fn the_headers_macros_are_the_harnesss_sizes() {
+fn the_headers_macros_agree_with_the_layout() {
     let sizes = sizes();
     let mut known: BTreeSet<String> = sizes.keys().map(|name| name.to_string()).collect();
     known.insert("STACK_LEN".to_string());
