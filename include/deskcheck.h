@@ -166,7 +166,8 @@ extern "C" {
  *
  * - the session is readable (deskcheck_session_refusal answers 0) and strict (flag 1), every view has
  *   one layer, and no texture is 3D;
- * - the buffers of the first call are fresh: counts 0, and DESKCHECK_STATUS_LEN status bytes of 0;
+ * - the buffers of the first call are fresh: long enough, counts 0, and status byte 0 for each surface of
+ *   the session (what stands behind the last surface's byte may be anything);
  * - every call is handed that session, and each call after the first the buffers as the call before it
  *   left them;
  * - the box does what it is told: at a submission it zeroes each surface whose status byte then has 2,
