@@ -73,11 +73,19 @@ function follow(    done, parts) {
     }
 }
 
-# The visited names in the order of the visit.
-function show(    i, parts) {
-    for (i = 1; i <= queued; i++) {
+# The names that are visited, in the order of the visit; below a record of promises, what its fields cite besides.
+function show(    i, j, first, last, parts) {
+    last = queued
+    for (i = 1; i <= last; i++) {
         split(queue[i], parts, SUBSEP)
         printf "    %s  %s:%d\n", parts[2], parts[1], at[parts[1], parts[2]]
+        if (!((parts[1], parts[2]) in is_record)) continue
+        first = queued + 1
+        cites(parts[1], text[parts[1], parts[2]])
+        for (j = first; j <= queued; j++) {
+            split(queue[j], parts, SUBSEP)
+            printf "      %s  %s:%d\n", parts[2], parts[1], at[parts[1], parts[2]]
+        }
     }
 }
 
@@ -96,11 +104,13 @@ FILENAME ~ /\/specs\/.*\.antt$/ {
         gsub(/^ *(abbrev |unfoldable |pub )+/, "", head)
         type = head ~ /^(record|data) /
         if (type || head ~ /^[^ ]+ :/) {
+            promises = head ~ /^record /
             sub(/^(record|data) /, "", head)
             current = head
             sub(/[ ({].*/, "", current)
             at[FILENAME, current] = FNR
             own[FILENAME, bare(current)] = current
+            if (promises) is_record[FILENAME, current] = 1
             if (FILENAME ~ /\/Theorem\.antt$/ && head ~ /^[^ ]+ : Type [01]$/) statements[++stated] = FILENAME SUBSEP current
         }
     } else if (type && line ~ /^  [^ ]+ :/) {
@@ -180,11 +190,11 @@ END {
         split(f, part, SUBSEP)
         restart()
         cites(part[1], contract[f])
-        direct = queued
         if (!is_exported[f]) {
             follow()
             if (!(("crates/print/specs/Output.antt", "output") in seen)) continue
-            queued = direct
+            restart()
+            cites(part[1], contract[f])
         }
         printf "  %s:%d: %s: %d ensures\n", part[1], line_of[f], part[2], promised[f]
         show()
