@@ -35,7 +35,7 @@ fn must_fail() -> BTreeSet<String> {
 
 /// The edits of the definition.
 fn of_the_definition() -> BTreeSet<String> {
-    let folder = repository("crates/laws/definition-edits");
+    let folder = repository("crates/noninterference/definition-edits");
     let folders = entries(&folder);
     let found = folders.iter().flat_map(|name| edits(&folder.join(name)));
     found.collect()
