@@ -1,5 +1,6 @@
-// Little-endian numbers and floats, read from bytes and written into them. Every position has an answer: past the end a
-// byte reads as 0, and a number that does not fit whole is not written. No public function has a `requires`.
+// Little-endian numbers and floats, read from bytes, and numbers written into them. Every position has an answer: past the
+// end a byte reads as 0, and a number that does not fit whole is not written. Of the public functions only `u32_inside` has
+// a `requires`: who knows that four bytes lie inside reads them untested.
 ghost use mathlib.Core.Path.{_≡_};
 ghost use Prim.Native.Nat.{_+_, _*_, _^_, _≤_, _<_};
 ghost use lib.ListN.{length, getD};
@@ -150,7 +151,7 @@ pub fn f32_of_bits(n: u32) -> f32
 }
 
 // The same of an f64.
-pub fn f64_of_bits(n: u64) -> f64
+fn f64_of_bits(n: u64) -> f64
     ensures { λ r. ⌜ r ≡ f64OfBits n ⌝ }
 {
     let magnitude = n % 0x8000_0000_0000_0000;
@@ -188,7 +189,7 @@ pub fn f64_of_halves(low: u32, high: u32) -> f64
 }
 
 // Writes the lowest k bytes of n, the lowest first.
-fn put_bytes(s: &mut [u8], at: usize, n: u64, k: usize)
+fn put_bytes(s: &mut [u8], at: usize, n: u32, k: usize)
     requires { ⌜ at + k ≤ length (now s) ⌝ }
     ensures { λ _. ⌜ now (s .exit) ≡ putBytes (now (s .entry)) at n k ⌝ }
 {
@@ -201,37 +202,16 @@ fn put_bytes(s: &mut [u8], at: usize, n: u64, k: usize)
     }
 }
 
-// Writes a number of k bytes, where they all lie inside.
-fn put_number(s: &mut [u8], at: usize, n: u64, k: usize)
-    ensures { λ _. ⌜ now (s .exit) ≡ putNumber k (now (s .entry)) at n ⌝ }
-{
-    let size = s.len();
-    if size < k {
-        return;
-    }
-    if at > size - k {
-        return;
-    }
-    put_bytes(s, at, n, k);
-}
-
-// Writes a u32.
+// Writes a u32, where its four bytes all lie inside.
 pub fn put_u32(s: &mut [u8], at: usize, n: u32)
     ensures { λ _. ⌜ now (s .exit) ≡ putNumber 4 (now (s .entry)) at n ⌝ }
 {
-    put_number(s, at, n as u64, 4);
-}
-
-// Writes an f32 as its pattern.
-pub fn put_f32(s: &mut [u8], at: usize, x: f32)
-    ensures { λ _. ⌜ now (s .exit) ≡ putNumber 4 (now (s .entry)) at (toBits binary32 x) ⌝ }
-{
-    put_number(s, at, bits_of_f32(x) as u64, 4);
-}
-
-// Writes an f64 as its pattern.
-pub fn put_f64(s: &mut [u8], at: usize, x: f64)
-    ensures { λ _. ⌜ now (s .exit) ≡ putNumber 8 (now (s .entry)) at (toBits binary64 x) ⌝ }
-{
-    put_number(s, at, bits_of_f64(x), 8);
+    let size = s.len();
+    if size < 4 {
+        return;
+    }
+    if at > size - 4 {
+        return;
+    }
+    put_bytes(s, at, n, 4);
 }
