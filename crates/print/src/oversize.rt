@@ -1,6 +1,6 @@
 // The refusal of a file that is longer than any session, told from its header and its true length.
 // A program whose buffer holds every session can answer for every file so.
-use session::header::TOTAL_LENGTH;
+use definition::sizes::TOTAL_LENGTH_AT;
 use wire::u32_at;
 ghost use mathlib.Core.Path.{_≡_};
 ghost use mathlib.Core.List.{List};
@@ -14,7 +14,7 @@ ghost use Rattle.definition.specs.Readable.{sessionRefusal};
 pub fn oversize_refusal(head: &[u8], bytes: u64) -> u32
     ensures { λ r. ⌜ ((file : List ℕ) → length file ≡ bytes → Se.totalLength file ≡ Se.totalLength (now (head .entry)) → longestSession < bytes → r ≡ sessionRefusal file) ⌝ }
 {
-    if u32_at(head, TOTAL_LENGTH) as u64 == bytes {
+    if u32_at(head, TOTAL_LENGTH_AT) as u64 == bytes {
         2
     } else {
         1

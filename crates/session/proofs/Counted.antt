@@ -3,6 +3,7 @@ use mathlib.Core.Path.{_≡_}
 use Prim.Native.Nat.{ℕ, suc, _+_, _*_, _≤_, _<_, min}
 use native.Mathlib.Omega.{arith}
 use native.Mathlib.Nat.{mul-le-mul}
+use Rattle.definition.specs.Sizes.{maxSurfaces}
 use Rattle.definition.specs.Session.{Session, surfacesBefore, surfacesIn}
 use Rattle.session.specs.Counted.{surfacesUpTo}
 
@@ -14,11 +15,11 @@ product a b h k =
     mul-le-mul p q
 
 -- One more texture.
-pub up-to-suc : (S : Session) (k : ℕ) → min 4097 (surfacesUpTo S k + surfacesIn (S .texture k)) ≡ surfacesUpTo S (suc k)
+pub up-to-suc : (S : Session) (k : ℕ) → min (suc maxSurfaces) (surfacesUpTo S k + surfacesIn (S .texture k)) ≡ surfacesUpTo S (suc k)
 unfolding surfacesUpTo surfacesBefore
 up-to-suc S k = omega arith
 
--- Where no more than 4096 surfaces are counted, nothing is cut off.
-pub up-to-is : (S : Session) (n : ℕ) → surfacesBefore S n ≤ 4096 → surfacesUpTo S n ≡ surfacesBefore S n
+-- Where no more surfaces are counted than a session has at most, nothing is cut off.
+pub up-to-is : (S : Session) (n : ℕ) → surfacesBefore S n ≤ maxSurfaces → surfacesUpTo S n ≡ surfacesBefore S n
 unfolding surfacesUpTo
 up-to-is S n h = omega arith

@@ -5,13 +5,11 @@ use crate::texture;
 use definition::Range;
 use definition::Texture;
 use definition::View;
+use definition::sizes::NO_VIEW;
 use wire::has_bit;
 ghost use mathlib.Core.Path.{_≡_};
 ghost use Rattle.definition.specs.Session as Se;
 ghost use Rattle.definition.specs.Session.{session};
-
-// The number that stands for no view.
-pub const NO_VIEW: u32 = 0xffff_ffff;
 
 // The bit of flag 1, strict.
 const STRICT: u32 = 0;

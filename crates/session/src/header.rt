@@ -30,9 +30,6 @@ const MAX_MULTIVIEW: usize = 28;
 // Where its flags stand.
 const FLAGS: usize = 32;
 
-// Where its total length stands.
-pub const TOTAL_LENGTH: usize = 36;
-
 // The number of texture rows.
 pub fn texture_count(s: &[u8]) -> u32
     ensures { λ r. ⌜ r ≡ session (now (s .entry)) .textureCount ⌝ }

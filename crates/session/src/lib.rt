@@ -11,6 +11,12 @@ use definition::Color;
 use definition::Slot;
 use definition::Texture;
 use definition::View;
+use definition::sizes::HEADER_BYTES;
+use definition::sizes::PASS_BYTES;
+use definition::sizes::SLOT_BYTES;
+use definition::sizes::SLOT_START;
+use definition::sizes::TEXTURE_BYTES;
+use definition::sizes::VIEW_BYTES;
 use header::TEXTURE_COUNT;
 use header::VIEW_COUNT;
 use header::texture_count;
@@ -29,24 +35,6 @@ pub struct SlotViews {
     pub slice: u32,
     pub resolve: u32,
 }
-
-// Bytes of the header.
-pub const HEADER_BYTES: usize = 40;
-
-// Bytes of a texture row.
-const TEXTURE_BYTES: usize = 32;
-
-// Bytes of a view row.
-const VIEW_BYTES: usize = 32;
-
-// Bytes of a pass row.
-pub const PASS_BYTES: usize = 504;
-
-// Where the colour slots of a pass row start.
-const SLOT_START: usize = 56;
-
-// Bytes of a colour slot.
-const SLOT_BYTES: usize = 56;
 
 // Where a pass row's multiview mask stands, after the colour count.
 const MASK: usize = 4;

@@ -1,19 +1,18 @@
-// Surfaces counted, and their numbers among the status bytes. Every byte string and every number has an answer: counting
-// stops at one past the most surfaces that a session has, and no public function has a `requires`.
+// Surfaces counted, and where a range of mips or layers ends. Every byte string and every number has an answer: counting
+// stops at one past the most surfaces that a session has, and no function has a `requires`.
 use crate::derived::array_layers;
 use crate::texture;
-use definition::Surface;
 use definition::Texture;
+use definition::sizes::MAX_SURFACES;
 ghost use mathlib.Core.Path.{_≡_};
 ghost use Prim.Native.Nat.{_+_, _*_, _≤_, min};
+ghost use lib.Dec.{leb};
+ghost use Rattle.definition.specs.Sizes.{maxSurfaces};
 ghost use Rattle.definition.specs.Session.{session, surfacesIn};
-ghost use Rattle.session.specs.Counted.{surfacesUpTo, surfaceNumber};
-
-// The most surfaces of a session.
-const MAX_SURFACES: u64 = 4096;
+ghost use Rattle.session.specs.Counted.{surfacesUpTo};
 
 // Where counting stops.
-const COUNTED_SURFACES: u64 = MAX_SURFACES + 1;
+const COUNTED_SURFACES: u64 = MAX_SURFACES as u64 + 1;
 
 // The product of two u32, whole.
 fn times(a: u32, b: u32) -> u64
@@ -38,7 +37,7 @@ fn least(a: u64, b: u64) -> u64
 
 // The surfaces of the first n textures, counted no further than one past the most that a session has.
 pub fn surfaces_before(s: &[u8], n: u32) -> u64
-    ensures { λ r. ⌜ (r ≡ surfacesUpTo (session (now (s .entry))) n) × (r ≤ 4097) ⌝ }
+    ensures { λ r. ⌜ (r ≡ surfacesUpTo (session (now (s .entry))) n) × (r ≤ maxSurfaces + 1) ⌝ }
 {
     let mut sum = 0u64;
     let mut k = 0u32;
@@ -49,10 +48,9 @@ pub fn surfaces_before(s: &[u8], n: u32) -> u64
     sum
 }
 
-// A surface's number among the status bytes: by texture, mip, layer.
-pub fn surface_number(s: &[u8], x: Surface) -> u64
-    ensures { λ r. ⌜ r ≡ surfaceNumber (session (now (s .entry))) x ⌝ }
+// Whether so many from the first on end by the last. The sum of two u32 fits a u64.
+pub fn ends_by(first: u32, count: u32, last: u32) -> bool
+    ensures { λ r. ⌜ r ≡ leb (first + count) last ⌝ }
 {
-    let t = texture(s, x.texture);
-    surfaces_before(s, x.texture) + times(x.mip, array_layers(t)) + x.layer as u64
+    first as u64 + count as u64 <= last as u64
 }

@@ -1,9 +1,10 @@
--- The invariant: the sum is the count of the first k textures, stopped at 4097.
+-- The invariant: the sum is the count of the first k textures, stopped at one past the most surfaces.
 use mathlib.Core.Path.{_≡_, refl, sym}
 use native.Mathlib.Omega.{arith}
-use Prim.Native.Nat.{_≤_, _-_}
+use Prim.Native.Nat.{_+_, _≤_, _-_}
 use native.Mathlib.Numerals.{add-one}
 use borrow.Author.Needs.{needs}
+use Rattle.definition.specs.Sizes.{maxSurfaces}
 use Rattle.definition.specs.Session.{session, surfacesBefore}
 use Rattle.session.specs.Counted.{surfacesUpTo}
 use Rattle.session.proofs.Counted.{up-to-suc}
@@ -11,7 +12,7 @@ use Rattle.session.proofs.surfaces.surfaces_before.Statement.{statement
 use Rattle.session.proofs.surfaces.surfaces_before.Tie as tie
 
 abbrev Inv-loop : tie.InvT-loop
-Inv-loop s n sum₀ k₀ sum k = (sum ≡ surfacesUpTo (session s) k) × (k ≤ n) × (sum ≤ 4097)
+Inv-loop s n sum₀ k₀ sum k = (sum ≡ surfacesUpTo (session s) k) × (k ≤ n) × (sum ≤ maxSurfaces + 1)
 
 abbrev μ-loop : tie.MeasureT-loop
 μ-loop s n sum₀ k₀ sum k = n - k
