@@ -40,7 +40,7 @@ fn of_kind(kind: LoadKind, clear: ColorLoadOp) -> ColorLoadOp
 
 impl ColorLoadOp {
     // The load without its value.
-    pub fn kind(self) -> LoadKind
+    fn kind(self) -> LoadKind
         ensures { λ r. ⌜ kindIn r ≡ kindOf (loadIn self) ⌝ }
     {
         match self {

@@ -57,7 +57,7 @@ pub fn stores(store: StoreOp) -> bool
 }
 
 // 8 Store, 16 Discard.
-pub fn store_hal_ops(store: StoreOp) -> u32
+fn store_hal_ops(store: StoreOp) -> u32
     ensures { λ r. ⌜ r ≡ Ch.storeBits (keepIn store) ⌝ }
 {
     match store {
@@ -107,7 +107,7 @@ pub fn load_field(n: u32) -> LoadField
 }
 
 // 1 Load, 2 Clear, 4 DontCare.
-pub fn load_hal_ops(load: LoadKind) -> u32
+fn load_hal_ops(load: LoadKind) -> u32
     ensures { λ r. ⌜ r ≡ Ch.loadBits (kindIn load) ⌝ }
 {
     match load {

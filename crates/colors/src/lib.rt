@@ -5,6 +5,7 @@ use definition::Seen;
 use definition::Slot;
 use definition::Verdict;
 use definition::View;
+use definition::sizes::MAX_SLOTS;
 use definition::verdicts::AT_DEPTH_STENCIL;
 use definition::verdicts::either;
 use definition::verdicts::fine;
@@ -43,11 +44,8 @@ ghost use Rattle.definition.specs.Views as Vw;
 ghost use Rattle.definition.specs.Check as Ck;
 ghost use Rattle.views.specs.Taken.{takenIn};
 
-// The most colour slots of a pass, and so the place of the first resolve target.
-const MAX_COLOR_ATTACHMENTS: u32 = 8;
-
 // 39, 38 and 40: a slice is given for a D3 view, inside its mip's depth, and for no other.
-pub fn slice_verdict(s: &[u8], c: Slot, v: View, place: u32) -> Verdict
+fn slice_verdict(s: &[u8], c: Slot, v: View, place: u32) -> Verdict
     ensures { λ r. ⌜ r ≡ Vw.sliceVerdict (session (now (s .entry))) c v place ⌝ }
 {
     let given = unless(c.sliced == 1, 39, place);
@@ -57,7 +55,7 @@ pub fn slice_verdict(s: &[u8], c: Slot, v: View, place: u32) -> Verdict
 }
 
 // The colour view v of slot k: 30 to 41.
-pub fn color_view(s: &[u8], pass: u32, seen: Seen, c: Slot, v: View, k: u32) -> Verdict
+fn color_view(s: &[u8], pass: u32, seen: Seen, c: Slot, v: View, k: u32) -> Verdict
     ensures { λ r. ⌜ r ≡ Vw.colorView (session (now (s .entry))) seen (takenIn (now (s .entry)) pass k) c v k ⌝ }
 {
     let layers = check_multiview(s, seen, v, k);
@@ -109,7 +107,7 @@ fn target_of(s: &[u8], seen: Seen, v: View, target: View, place: u32) -> Verdict
 }
 
 // The resolve target of slot k, whose colour view is v: 30 to 33, 48, 41, 34, 35, 42 to 45.
-pub fn resolve_view(
+fn resolve_view(
     s: &[u8],
     pass: u32,
     seen: Seen,
@@ -157,7 +155,7 @@ fn resolve_step(s: &[u8], pass: u32, seen: Seen, c: Slot, v: View, k: u32) -> Pr
             seen: seen,
         };
     }
-    let place = MAX_COLOR_ATTACHMENTS + k;
+    let place = MAX_SLOTS + k;
     let target = view(s, c.resolve);
     Progress {
         verdict: resolve_view(s, pass, seen, k, v, c.slice, target, place),
@@ -212,14 +210,10 @@ fn next_slot(s: &[u8], pass: u32, k: u32, a: Progress) -> Progress
 fn slots_of(n: u32) -> u32
     ensures { λ r. ⌜ (r ≡ min n maxSlots) × (r ≤ maxSlots) ⌝ }
 {
-    if n < MAX_COLOR_ATTACHMENTS {
-        n
-    } else {
-        MAX_COLOR_ATTACHMENTS
-    }
+    if n < MAX_SLOTS { n } else { MAX_SLOTS }
 }
 
-// The first n slots, after a. No more than eight are looked at: a pass of more is refused as 5.
+// The first n slots, after a. No more are looked at than a pass may have: one of more is refused as 5.
 pub fn slot_steps(s: &[u8], pass: u32, a: Progress, n: u32) -> Progress
     ensures { λ r. ⌜ r ≡ Ck.slotSteps (session (now (s .entry))) (session (now (s .entry)) .pass pass) a (min n maxSlots) ⌝ }
 {

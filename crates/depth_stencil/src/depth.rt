@@ -69,7 +69,7 @@ pub enum DepthAnswer {
 
 impl DepthLoadOp {
     // The load without its value.
-    pub fn kind(self) -> LoadKind
+    fn kind(self) -> LoadKind
         ensures { λ r. ⌜ kindIn r ≡ kindOf (loadIn self) ⌝ }
     {
         match self {
@@ -104,7 +104,7 @@ fn load_field(n: u32, x: f32) -> DepthLoadField
 // ── a clear value
 
 // 0.0 to 1.0, both included: -0.0 is in it, and no NaN.
-pub fn in_range(x: f32) -> bool
+fn in_range(x: f32) -> bool
     ensures { λ r. ⌜ r ≡ Ch.depthInRange x ⌝ }
 {
     (0.0 <= x) & (x <= 1.0)
@@ -159,28 +159,28 @@ fn with_answer(answer: Answer, x: f32) -> DepthAnswer
 
 impl DepthChannel {
     // The load that is asked for.
-    pub fn load(self) -> DepthLoadField
+    fn load(self) -> DepthLoadField
         ensures { λ r. ⌜ askedField (self .given) (fieldIn r) ≡ channelIn self .load ⌝ }
     {
         self.load
     }
 
     // The store that is asked for.
-    pub fn store(self) -> StoreField
+    fn store(self) -> StoreField
         ensures { λ r. ⌜ storeIn r ≡ channelIn self .store ⌝ }
     {
         self.store
     }
 
     // Whether the channel is only read.
-    pub fn is_readonly(self) -> bool
+    fn is_readonly(self) -> bool
         ensures { λ r. ⌜ r ≡ channelIn self .readOnly ⌝ }
     {
         self.readonly
     }
 
     // The value of a Clear, zero where there is none.
-    pub fn clear_value(self) -> f32
+    fn clear_value(self) -> f32
         ensures { λ r. ⌜ r ≡ askedClear (f32OfBits 0) (fieldIn (self .load)) ⌝ }
     {
         let load = self.load;
@@ -215,7 +215,7 @@ impl DepthChannel {
     }
 
     // Of an aspect that the format has or lacks: 18 to 24, or 25.
-    pub fn resolve(self, has: bool, strict: bool) -> DepthAnswer
+    fn resolve(self, has: bool, strict: bool) -> DepthAnswer
         ensures { λ r. ⌜ answerIn r ≡ resolvedFor Ch.handleDepth 25 has strict (channelIn self) ⌝ }
     {
         let x = self.clear_value();

@@ -68,7 +68,7 @@ pub enum StencilAnswer {
 
 impl StencilLoadOp {
     // The load without its value.
-    pub fn kind(self) -> LoadKind
+    fn kind(self) -> LoadKind
         ensures { λ r. ⌜ kindIn r ≡ kindOf (loadIn self) ⌝ }
     {
         match self {
@@ -103,7 +103,7 @@ fn load_field(n: u32, x: u32) -> StencilLoadField
 // ── a clear value
 
 // The low 8 bits.
-pub fn convert_stencil_value(value: u32) -> u32
+fn convert_stencil_value(value: u32) -> u32
     ensures { λ r. ⌜ Ch.value r ≡ Ch.handleStencil (some value) ⌝ }
 {
     value % 256
@@ -154,28 +154,28 @@ fn with_answer(answer: Answer, x: u32) -> StencilAnswer
 
 impl StencilChannel {
     // The load that is asked for.
-    pub fn load(self) -> StencilLoadField
+    fn load(self) -> StencilLoadField
         ensures { λ r. ⌜ askedField (self .given) (fieldIn r) ≡ channelIn self .load ⌝ }
     {
         self.load
     }
 
     // The store that is asked for.
-    pub fn store(self) -> StoreField
+    fn store(self) -> StoreField
         ensures { λ r. ⌜ storeIn r ≡ channelIn self .store ⌝ }
     {
         self.store
     }
 
     // Whether the channel is only read.
-    pub fn is_readonly(self) -> bool
+    fn is_readonly(self) -> bool
         ensures { λ r. ⌜ r ≡ channelIn self .readOnly ⌝ }
     {
         self.readonly
     }
 
     // The value of a Clear, zero where there is none.
-    pub fn clear_value(self) -> u32
+    fn clear_value(self) -> u32
         ensures { λ r. ⌜ r ≡ askedClear 0 (fieldIn (self .load)) ⌝ }
     {
         let load = self.load;
@@ -210,7 +210,7 @@ impl StencilChannel {
     }
 
     // Of an aspect that the format has or lacks: 18 to 24, or 26.
-    pub fn resolve(self, has: bool, strict: bool) -> StencilAnswer
+    fn resolve(self, has: bool, strict: bool) -> StencilAnswer
         ensures { λ r. ⌜ answerIn r ≡ resolvedFor Ch.handleStencil 26 has strict (channelIn self) ⌝ }
     {
         let x = handle_clear(self.given, self.clear_value());

@@ -6,6 +6,7 @@ use Prim.Native.Nat.{ℕ, _+_, _*_, _<_, _≤_}
 use native.Mathlib.Omega.{arith}
 use native.Mathlib.Nat.{mul-le-mul}
 use lib.Dec.{leb}
+use Rattle.definition.specs.Sizes.{maxMips, maxLayers, maxSurfaces}
 use Rattle.definition.specs.Session.{Session, surfacesIn, surfacesBefore, surfaceCount}
 use Rattle.definition.specs.Readable.{textureRight, texturesRead, texturesRight}
 use Rattle.definition.specs.declared.Texture.{Texture}
@@ -13,17 +14,21 @@ use Rattle.laws.proofs.Tests.{and-on, and-off-right}
 use Rattle.laws.proofs.Folds.{textures-none, textures-turn, textures-stop, before-none, before-turn}
 use Rattle.readable.proofs.Valid.{valid-texture}
 
--- The first k rows: each can be read, and the sum is the number of their surfaces, at most 480 each.
+-- The most surfaces of a texture row that can be read.
+abbrev most : ℕ
+most = maxMips * maxLayers
+
+-- The first k rows: each can be read, and the sum is the number of their surfaces, so many each at most.
 pub record Read (S : Session) (k sum : ℕ) : Type 0 where
   pub each : texturesRead S k ≡ true
   pub counted : sum ≡ surfacesBefore S k
-  pub few : sum ≤ 480 * k
+  pub few : sum ≤ most * k
 
 pub read-none : (S : Session) → Read S 0 0
 read-none S = record { each = textures-none S; counted = sym (before-none S); few = omega arith }
 
--- A texture row that can be read has at most 15 mips of 32 layers.
-few-in : (t : Texture) → textureRight t ≡ true → surfacesIn t ≤ 480
+-- A texture row that can be read has no more mips, nor more layers, than there may be.
+few-in : (t : Texture) → textureRight t ≡ true → surfacesIn t ≤ most
 few-in t e = let v = valid-texture t e in mul-le-mul (v .mips .1) (v .layers .1)
 
 -- Row k, its test, and its surfaces.
@@ -46,9 +51,9 @@ module _ (S : Session) (k : ℕ) {t : Texture} {right : Bool} (row : t ≡ S .te
   unfolding texturesRight
   row-refused h e =
       let stop = textures-stop S (k + 1) (S .textureCount) (omega arith) (textures-turn S k ∙ and-off-right (texturesRead S k) _ (sym judged ∙ e)) in
-      ap (λ b. b && leb (surfaceCount S) 4096) (sym stop)
+      ap (λ b. b && leb (surfaceCount S) maxSurfaces) (sym stop)
 
 -- Where each row can be read, the surfaces decide.
-pub read-all : (S : Session) (sum : ℕ) → Read S (S .textureCount) sum → leb sum 4096 ≡ texturesRight S
+pub read-all : (S : Session) (sum : ℕ) → Read S (S .textureCount) sum → leb sum maxSurfaces ≡ texturesRight S
 unfolding texturesRight
-read-all S sum r = ap (λ m. leb m 4096) (r .counted) ∙ ap (λ b. b && leb (surfaceCount S) 4096) (sym (r .each))
+read-all S sum r = ap (λ m. leb m maxSurfaces) (r .counted) ∙ ap (λ b. b && leb (surfaceCount S) maxSurfaces) (sym (r .each))

@@ -8,6 +8,7 @@ use native.Mathlib.Nat.{div-div-eq-div-mul, mul-comm, pow-suc}
 use lib.Dec.{leb, eqb}
 use lib.Bits.{bitAnd, and-step}
 use borrow.Author.Tests.{eqb-true, eqb-false, eq-eqb, ne-eqb, leb-true}
+use Rattle.definition.specs.Sizes.{maxUsage}
 use Rattle.definition.specs.Bytes.{bit}
 use Rattle.definition.specs.Readable.{bitsBelow, usageAmong}
 use Rattle.laws.proofs.Tests.{bool-iff, and-on, and-left, and-right, or-on-left, or-on-right, implies-on, not-on}
@@ -64,10 +65,10 @@ below-is (suc n) a b h =
     lowest a b n ∙ ap (λ t. among a b 0 && t) (below-is n (a / 2) (b / 2) half) ∙ digit a b (bitAnd (a / 2) (b / 2)) ∙ ap (λ m. eqb m a) (sym (and-step a b))
 
 -- A usage field has six bits.
-pub usage-is : (a b : ℕ) → (leb a 63 && eqb (bitAnd a b) a) ≡ usageAmong a b
+pub usage-is : (a b : ℕ) → (leb a maxUsage && eqb (bitAnd a b) a) ≡ usageAmong a b
 unfolding usageAmong
-usage-is a b = go (leb a 63) refl
+usage-is a b = go (leb a maxUsage) refl
   where
-    go : (t : Bool) → leb a 63 ≡ t → (t && eqb (bitAnd a b) a) ≡ (t && bitsBelow a b 6)
-    go true e = sym (below-is 6 a b (omega (arith, leb-true a 63 e)))
+    go : (t : Bool) → leb a maxUsage ≡ t → (t && eqb (bitAnd a b) a) ≡ (t && bitsBelow a b 6)
+    go true e = sym (below-is 6 a b (omega (arith, leb-true a maxUsage e)))
     go false e = refl

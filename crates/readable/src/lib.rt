@@ -4,8 +4,20 @@ use definition::Channel;
 use definition::Slot;
 use definition::Texture;
 use definition::View;
-use session::HEADER_BYTES;
-use session::PASS_BYTES;
+use definition::sizes::HEADER_BYTES;
+use definition::sizes::MAX_FLAGS;
+use definition::sizes::MAX_LAYERS;
+use definition::sizes::MAX_MIPS;
+use definition::sizes::MAX_MULTIVIEWS;
+use definition::sizes::MAX_PASSES;
+use definition::sizes::MAX_SIZE;
+use definition::sizes::MAX_SLOTS;
+use definition::sizes::MAX_SURFACES;
+use definition::sizes::MAX_TEXTURES;
+use definition::sizes::MAX_USAGE;
+use definition::sizes::MAX_VIEWS;
+use definition::sizes::PASS_BYTES;
+use definition::sizes::TOTAL_LENGTH_AT;
 use session::colors;
 use session::depth;
 use session::depth_stencil;
@@ -15,7 +27,6 @@ use session::ends;
 use session::formats::is_format;
 use session::header::PASS_OFFSET;
 use session::header::TEXTURE_OFFSET;
-use session::header::TOTAL_LENGTH;
 use session::header::VIEW_OFFSET;
 use session::header::flags;
 use session::header::max_colors;
@@ -26,50 +37,16 @@ use session::header::view_count;
 use session::pass_start;
 use session::slot;
 use session::stencil;
+use session::surfaces::ends_by;
 use session::surfaces::surfaces_in;
 use session::texture;
 use session::view;
 use session::view_start;
 use wire::u32_at;
 ghost use mathlib.Core.Path.{_≡_};
-ghost use Prim.Native.Nat.{_+_};
-ghost use lib.Dec.{leb};
 ghost use Rattle.definition.specs.Session as Se;
 ghost use Rattle.definition.specs.Session.{session};
 ghost use Rattle.definition.specs.Readable as Re;
-
-// The most texture rows.
-const MAX_TEXTURES: u32 = 64;
-
-// The most view rows.
-const MAX_VIEWS: u32 = 256;
-
-// The most pass rows.
-const MAX_PASSES: u32 = 100;
-
-// The most colour slots of a pass.
-const MAX_SLOTS: u32 = 8;
-
-// The most views of a multiview pass.
-const MAX_MULTIVIEWS: u32 = 32;
-
-// The largest flags field.
-const MAX_FLAGS: u32 = 15;
-
-// The largest width or height of a texture.
-const MAX_SIZE: u32 = 16384;
-
-// The largest depth, or most layers, of a texture.
-const MAX_LAYERS: u32 = 32;
-
-// The most mips of a texture.
-const MAX_MIPS: u32 = 15;
-
-// The largest usage field.
-const MAX_USAGE: u32 = 63;
-
-// The most surfaces of a session.
-const MAX_SURFACES: u64 = 4096;
 
 // Whether n is one of the numbers from low to high.
 fn between(low: u32, high: u32, n: u32) -> bool
@@ -82,7 +59,7 @@ fn between(low: u32, high: u32, n: u32) -> bool
 fn length_right(s: &[u8]) -> bool
     ensures { λ r. ⌜ r ≡ Re.lengthRight (now (s .entry)) ⌝ }
 {
-    (HEADER_BYTES <= s.len()) & (u32_at(s, TOTAL_LENGTH) as usize == s.len())
+    (HEADER_BYTES <= s.len()) & (u32_at(s, TOTAL_LENGTH_AT) as usize == s.len())
 }
 
 // Where the pass rows end.
@@ -105,7 +82,7 @@ fn header_right(s: &[u8]) -> bool
         & between(1, MAX_SLOTS, max_colors(s))
         & (max_multiview(s) <= MAX_MULTIVIEWS)
         & (flags(s) <= MAX_FLAGS)
-        & (pass_end(s) == u32_at(s, TOTAL_LENGTH) as usize)
+        & (pass_end(s) == u32_at(s, TOTAL_LENGTH_AT) as usize)
 }
 
 // Whether a texture may have n samples.
@@ -145,7 +122,7 @@ fn textures_right(s: &[u8]) -> bool
         sum += surfaces_in(t);
         k += 1;
     }
-    sum <= MAX_SURFACES
+    sum <= MAX_SURFACES as u64
 }
 
 // Whether the usage bits of a are among those of b.
@@ -162,22 +139,15 @@ fn dimension_fits(v: u32, t: u32) -> bool
     (v == 1) & (t == 1) | (v == 6) & (t == 3) | between(2, 5, v) & (t == 2)
 }
 
-// Whether n from `first` on end within the first `count`.
-fn ends_within(first: u32, n: u32, count: u32) -> bool
-    ensures { λ r. ⌜ r ≡ leb (first + n) count ⌝ }
-{
-    first as u64 + n as u64 <= count as u64
-}
-
 // W3C "texture view creation": whether a view's ranges are non-empty and inside the texture, and its other fields fit.
 fn view_in_texture(t: Texture, v: View) -> bool
     ensures { λ r. ⌜ r ≡ Re.viewInTexture t v ⌝ }
 {
     dimension_fits(v.dimension, t.dimension)
         & (1 <= v.mips)
-        & ends_within(v.mip, v.mips, t.mips)
+        & ends_by(v.mip, v.mips, t.mips)
         & (1 <= v.layers)
-        & ends_within(v.layer, v.layers, array_layers(t))
+        & ends_by(v.layer, v.layers, array_layers(t))
         & usage_among(v.usage, t.usage)
         & (v.resolvable <= 1)
 }

@@ -1,4 +1,4 @@
--- A colour count above 8 is refused first; else the three tests are the definition's.
+-- A colour count above the most is refused first; else the three tests are the definition's.
 use Rattle.definition.specs.Readable.{passReads}
 use borrow.Author.Tests.{le-leb, lt-leb}
 use borrow.Author.Needs.{needs}

@@ -9,7 +9,7 @@ unfolding viewInTexture
 returns c =
     let c5 = c .before .before .before .before .before in
     let c7 = c5 .before .before in
-    simp (c .before .usage-among .ensures, c .before .before .ends-within2 .ensures, c .before .before .before .array-layers .ensures, c5 .ends-within .ensures, c7 .dimension-fits .ensures)
+    simp (c .before .usage-among .ensures, c .before .before .ends-by2 .ensures, c .before .before .before .array-layers .ensures, c5 .ends-by .ensures, c7 .dimension-fits .ensures)
 
 pub view-in-texture-spec : {M : Type 1} → statement M
 view-in-texture-spec =
