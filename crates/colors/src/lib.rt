@@ -84,7 +84,9 @@ fn target_view(
     target: View,
     place: u32,
 ) -> Verdict
-    ensures { λ r. ⌜ r ≡ Vw.targetView (session (now (s .entry))) seen (Vw.takes v slice ++ takenIn (now (s .entry)) pass k) target place ⌝ }
+    ensures { λ r. ⌜
+        (let taken = Vw.takes v slice ++ takenIn (now (s .entry)) pass k in
+        r ≡ Vw.targetView (session (now (s .entry))) seen taken target place) ⌝ }
 {
     let layers = check_multiview(s, seen, target, place);
     let flat = unless(is_d2(target) | is_d2_array(target), 48, place);
@@ -117,7 +119,9 @@ fn resolve_view(
     target: View,
     place: u32,
 ) -> Verdict
-    ensures { λ r. ⌜ r ≡ Vw.resolveView (session (now (s .entry))) seen (Vw.takes v slice ++ takenIn (now (s .entry)) pass k) v target place ⌝ }
+    ensures { λ r. ⌜
+        (let taken = Vw.takes v slice ++ takenIn (now (s .entry)) pass k in
+        r ≡ Vw.resolveView (session (now (s .entry))) seen taken v target place) ⌝ }
 {
     then(
         target_view(s, pass, seen, k, v, slice, target, place),
