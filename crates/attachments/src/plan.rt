@@ -24,22 +24,22 @@ ghost use Rattle.definition.specs.declared.MemoryInitKind.the-variants.{Implici
 pub const COLOR_TARGET: u32 = 1;
 
 // TextureUses::DEPTH_STENCIL_READ.
-pub const DEPTH_STENCIL_READ: u32 = 2;
+const DEPTH_STENCIL_READ: u32 = 2;
 
 // The same with RESOURCE: the view can be bound as a texture.
-pub const DEPTH_STENCIL_READ_RESOURCE: u32 = 3;
+const DEPTH_STENCIL_READ_RESOURCE: u32 = 3;
 
 // TextureUses::DEPTH_STENCIL_WRITE.
-pub const DEPTH_STENCIL_WRITE: u32 = 4;
+const DEPTH_STENCIL_WRITE: u32 = 4;
 
 // No aspect diverges.
 pub const NO_ASPECT: u32 = 0;
 
 // The depth diverges.
-pub const DEPTH: u32 = 1;
+const DEPTH: u32 = 1;
 
 // The stencil diverges.
-pub const STENCIL: u32 = 2;
+const STENCIL: u32 = 2;
 
 // What an attachment does to the lists: the action that it registers, whether it lists a discard, and the aspect that diverges.
 pub struct Plan {

@@ -20,7 +20,7 @@ use Rattle.lent.proofs.Numbers.{length-numbers, whole-numbers}
 use Rattle.lent.specs.Right.{countsFit, countsIn, right, Long}
 use Rattle.lent.proofs.Turns.{right-counts, counts-in}
 use Rattle.lent.specs.State.{short}
-use Rattle.lent.specs.Judged.{Judged, Packed}
+use Rattle.lent.specs.Judged.{Judged, Unpacked, Packed}
 
 -- Buffers that are not short are long enough.
 pub not-short : (d a c status : List ℕ) → short d a c status ≡ false → Long d a c status
@@ -57,13 +57,11 @@ judged s d a c status n b counts e = record {
 -- ── numbers of a list of records
 
 module _ {A : Type 0} (k : ℕ) (decode : List ℕ → A) where
-  -- What is unpacked holds the records of the bytes.
-  pub unpacked-records : (n : ℕ) (x b : List ℕ) → take (k * n) x ≡ numbersAt b countBytes (k * n) → records k decode n x ≡ records k decode n (numbersAt b countBytes (k * n))
-  unpacked-records n x b e = records-same k decode n (numbersAt b countBytes (k * n)) x (e ∙ sym (whole-numbers b 4 (k * n)))
-
-  -- All of them, where n is their count.
-  pub unpacked-all : (n : ℕ) (x b : List ℕ) → n ≡ countIn b → take (k * n) x ≡ numbersAt b countBytes (k * n) → records k decode n x ≡ records k decode (countIn b) (numbersIn k b)
-  unpacked-all n x b e h = unpacked-records n x b h ∙ ap (λ (q : ℕ). records k decode q (numbersAt b countBytes (k * q))) e
+  -- What is unpacked holds the records of the bytes, where n is their count.
+  pub unpacked-all : (n : ℕ) (x b : List ℕ) {x₀ : List ℕ} → n ≡ countIn b → Unpacked k n b x₀ x → records k decode n x ≡ records k decode (countIn b) (numbersIn k b)
+  unpacked-all n x b e u =
+      records-same k decode n (numbersAt b countBytes (k * n)) x (u .numbers ∙ sym (whole-numbers b countBytes (k * n)))
+      ∙ ap (λ (q : ℕ). records k decode q (numbersAt b countBytes (k * q))) e
 
   module _ (held n : ℕ) (xs b b′ : List ℕ) (p : Packed k held n xs b b′) where
     -- What is packed stands behind the first records of the bytes.
@@ -71,7 +69,7 @@ module _ {A : Type 0} (k : ℕ) (decode : List ℕ → A) where
     packed-records =
         ap (λ (q : ℕ). records k decode q (numbersAt b′ countBytes (k * q))) (p .count)
         ∙ ap (records k decode (held + n)) (p .numbers)
-        ∙ records-append k decode held n (numbersAt b countBytes (k * held)) (take (k * n) xs) (length-numbers b 4 (k * held))
+        ∙ records-append k decode held n (numbersAt b countBytes (k * held)) (take (k * n) xs) (length-numbers b countBytes (k * held))
         ∙ ap (λ l. records k decode held (numbersAt b countBytes (k * held)) ++ l) (records-same k decode n xs (take (k * n) xs) (take-take (k * n) (k * n) xs (le-refl _)))
 
     -- Behind all of them.

@@ -1,4 +1,4 @@
--- What is decided of the bytes that are lent. And what packing leaves.
+-- What is decided of the bytes that are lent, and what unpacking and packing leave.
 use Prim.Native.Nat.{ℕ, _+_, _*_}
 use mathlib.Core.Path.{_≡_}
 use mathlib.Core.Bool.{Bool, true}
@@ -21,6 +21,11 @@ pub record Judged (s d a c status : List ℕ) (r : LentCounts) : Type 0 where
   pub decided : r .right ≡ rightIn s d a c status
   pub counts : r .counts ≡ countsIn d a c
   pub within : r .right ≡ true → Within (r .counts)
+
+-- The numbers of the first n records of k numbers of the bytes b stand at the front of x′; what stood behind them in x stays.
+pub record Unpacked (k n : ℕ) (b x x′ : List ℕ) : Type 0 where
+  pub numbers : take (k * n) x′ ≡ numbersAt b countBytes (k * n)
+  pub rest : drop (k * n) x′ ≡ drop (k * n) x
 
 -- n records of k numbers of the list xs are packed behind the first `held` of the bytes b; the bytes past them stay.
 pub record Packed (k held n : ℕ) (xs b b′ : List ℕ) : Type 0 where

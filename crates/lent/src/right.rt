@@ -12,13 +12,13 @@ use memory_init::Counts;
 use records::layers_of;
 use session::derived::array_layers;
 use session::header::texture_count;
+use session::surfaces::ends_by;
 use session::surfaces::surfaces_before;
 use session::texture;
 use wire::u32_at;
 use wire::u32_inside;
 ghost use mathlib.Core.Path.{_≡_};
 ghost use Prim.Native.Nat.{ℕ, _+_, _*_, _≤_, _<_};
-ghost use lib.Dec.{leb};
 ghost use lib.ListN.{length};
 ghost use Rattle.definition.specs.Sizes.{maxSurfaces, surfaceNumbers, actionNumbers, countBytes, listBytes};
 ghost use Rattle.definition.specs.Session.{session, surfaceCount};
@@ -29,22 +29,15 @@ ghost use Rattle.lent.specs.Packed.{numbersIn};
 ghost use Rattle.lent.specs.Right.{countsFit, countsIn, right, Long};
 
 // The session has the surface.
-pub fn surface_right(s: &[u8], x: Surface) -> bool
+fn surface_right(s: &[u8], x: Surface) -> bool
     ensures { λ r. ⌜ r ≡ surfaceRight (session (now (s .entry))) x ⌝ }
 {
     let t = texture(s, x.texture);
     (x.texture < texture_count(s)) & (x.mip < t.mips) & (x.layer < array_layers(t))
 }
 
-// The first number and so many more end by the last. The sum of two u32 fits a u64.
-fn ends_by(first: u32, count: u32, last: u32) -> bool
-    ensures { λ r. ⌜ r ≡ leb (first + count) last ⌝ }
-{
-    (first as u64) + (count as u64) <= (last as u64)
-}
-
 // The session has the range, and the range is not empty.
-pub fn range_right(s: &[u8], x: Range) -> bool
+fn range_right(s: &[u8], x: Range) -> bool
     ensures { λ r. ⌜ r ≡ rangeRight (session (now (s .entry))) x ⌝ }
 {
     let t = texture(s, x.texture);
@@ -57,7 +50,7 @@ pub fn range_right(s: &[u8], x: Range) -> bool
 }
 
 // The surface at place i of a lent list, which lies inside.
-pub fn surface_in(b: &[u8], i: usize) -> Surface
+fn surface_in(b: &[u8], i: usize) -> Surface
     requires { ⌜ listBytes surfaceNumbers (i + 1) ≤ length (now b) ⌝ }
     ensures { λ r. ⌜ ((n : ℕ) → i < n → r ≡ surfaceIn i (numbersAt (now (b .entry)) countBytes (surfaceNumbers * n))) ⌝ }
 {
@@ -70,7 +63,7 @@ pub fn surface_in(b: &[u8], i: usize) -> Surface
 }
 
 // The range of the action at place i of a lent list, which lies inside.
-pub fn range_in(b: &[u8], i: usize) -> Range
+fn range_in(b: &[u8], i: usize) -> Range
     requires { ⌜ listBytes actionNumbers (i + 1) ≤ length (now b) ⌝ }
     ensures { λ r. ⌜ ((n : ℕ) → i < n → r ≡ actionIn i (numbersAt (now (b .entry)) countBytes (actionNumbers * n)) .range) ⌝ }
 {
@@ -85,7 +78,7 @@ pub fn range_in(b: &[u8], i: usize) -> Range
 }
 
 // The first n surfaces of a lent list.
-pub fn surfaces_right(s: &[u8], b: &[u8], n: usize) -> bool
+fn surfaces_right(s: &[u8], b: &[u8], n: usize) -> bool
     requires { ⌜ listBytes surfaceNumbers n ≤ length (now b) ⌝ }
     ensures { λ r. ⌜ r ≡ surfacesRight (session (now (s .entry))) (surfaces n (numbersAt (now (b .entry)) countBytes (surfaceNumbers * n))) ⌝ }
 {
@@ -99,7 +92,7 @@ pub fn surfaces_right(s: &[u8], b: &[u8], n: usize) -> bool
 }
 
 // The ranges of the first n actions of a lent list.
-pub fn actions_right(s: &[u8], b: &[u8], n: usize) -> bool
+fn actions_right(s: &[u8], b: &[u8], n: usize) -> bool
     requires { ⌜ listBytes actionNumbers n ≤ length (now b) ⌝ }
     ensures { λ r. ⌜ r ≡ actionsRight (session (now (s .entry))) (actions n (numbersAt (now (b .entry)) countBytes (actionNumbers * n))) ⌝ }
 {
@@ -113,7 +106,7 @@ pub fn actions_right(s: &[u8], b: &[u8], n: usize) -> bool
 }
 
 // The first n status bytes.
-pub fn bytes_right(status: &[u8], n: usize) -> bool
+fn bytes_right(status: &[u8], n: usize) -> bool
     requires { ⌜ n ≤ length (now status) ⌝ }
     ensures { λ r. ⌜ r ≡ bytesRight n (now (status .entry)) ⌝ }
 {
@@ -138,14 +131,14 @@ pub fn counts_of(discards: &[u8], actions: &[u8], clears: &[u8]) -> Counts
 }
 
 // The counts are within the room of the lists.
-pub fn counts_right(n: Counts) -> bool
+fn counts_right(n: Counts) -> bool
     ensures { λ r. ⌜ r ≡ countsFit n ⌝ }
 {
     (n.discards <= MAX_DISCARDS) & (n.actions <= MAX_ACTIONS) & (n.clears <= MAX_CLEARS)
 }
 
 // How many surfaces a session has that is not refused.
-pub fn surface_count(s: &[u8]) -> usize
+fn surface_count(s: &[u8]) -> usize
     requires { ⌜ surfaceCount (session (now s)) ≤ maxSurfaces ⌝ }
     ensures { λ r. ⌜ r ≡ surfaceCount (session (now (s .entry))) ⌝ }
 {

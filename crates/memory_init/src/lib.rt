@@ -47,7 +47,7 @@ pub fn discard(discards: &mut [u32], n: usize, s: Surface) -> usize
 }
 
 // An action goes to the end of the list.
-pub fn push_action(actions: &mut [u32], a: usize, range: Range, kind: MemoryInitKind) -> usize
+fn push_action(actions: &mut [u32], a: usize, range: Range, kind: MemoryInitKind) -> usize
     requires { ⌜ actionNumbers * a + actionNumbers ≤ length (now actions) ⌝ }
     ensures { λ r. ⌜ Appended actionNumbers decodeAction a (actionOf range kind ∷ []) (now (actions .entry)) (now (actions .exit)) r ⌝ }
 {
@@ -74,13 +74,7 @@ pub fn retain_others(discards: &mut [u32], n: usize, range: Range) -> usize
 }
 
 // The discards in the range go to the end of the clears.
-pub fn return_clears(
-    discards: &[u32],
-    n: usize,
-    range: Range,
-    clears: &mut [u32],
-    c: usize,
-) -> usize
+fn return_clears(discards: &[u32], n: usize, range: Range, clears: &mut [u32], c: usize) -> usize
     requires { ⌜ (surfaceNumbers * n ≤ length (now discards)) × (surfaceNumbers * (c + length (matching range (surfaces n (now discards)))) ≤ length (now clears)) ⌝ }
     ensures { λ r. ⌜ Appended surfaceNumbers decodeSurface c (matching range (surfaces n (now (discards .entry)))) (now (clears .entry)) (now (clears .exit)) r ⌝ }
 {
@@ -98,7 +92,7 @@ pub fn return_clears(
 }
 
 // Each discard in the range gives an implicit action at the end of the actions.
-pub fn push_implicit_actions(
+fn push_implicit_actions(
     discards: &[u32],
     n: usize,
     range: Range,
@@ -127,7 +121,7 @@ pub fn push_implicit_actions(
 }
 
 // An implicit action: the discards in its range leave the list, and none is returned as a clear.
-pub fn register_implicit_init(
+fn register_implicit_init(
     discards: &mut [u32],
     actions: &mut [u32],
     n: Counts,
@@ -151,7 +145,7 @@ pub fn register_implicit_init(
 }
 
 // A needing action: the discards in its range leave the list, each is returned as a clear and gives an implicit action.
-pub fn register_needing_init(
+fn register_needing_init(
     discards: &mut [u32],
     actions: &mut [u32],
     clears: &mut [u32],
@@ -179,7 +173,7 @@ pub fn register_needing_init(
 }
 
 // The action is added whole and the discards in its range leave the list, by its kind.
-pub fn register_init_action(
+fn register_init_action(
     discards: &mut [u32],
     actions: &mut [u32],
     clears: &mut [u32],
@@ -208,7 +202,7 @@ pub fn register_init_action(
 }
 
 // What an attachment registers, if anything.
-pub fn register(
+fn register(
     discards: &mut [u32],
     actions: &mut [u32],
     clears: &mut [u32],

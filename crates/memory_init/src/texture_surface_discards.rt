@@ -19,7 +19,7 @@ pub struct TextureInitRange {
 }
 
 // A discard outside the range stays.
-pub fn stays(range: TextureInitRange, s: Surface) -> bool
+fn stays(range: TextureInitRange, s: Surface) -> bool
     ensures { λ r. ⌜ r ≡ not (Surfaces.hits (rangeOf range) s) ⌝ }
 {
     let named = Range {

@@ -14,7 +14,7 @@ ghost use Rattle.definition.specs.Surfaces as Surfaces;
 ghost use Rattle.records.specs.Lent.{encodeSurface, decodeKind, encodeKind, layersOf, encodeAction, surfaceIn, actionIn};
 
 // x is one of the `count` numbers from `first` on. The sum of two u32 fits a u64.
-pub fn within(first: u32, count: u32, x: u32) -> bool
+fn within(first: u32, count: u32, x: u32) -> bool
     ensures { λ r. ⌜ r ≡ Surfaces.within first count x ⌝ }
 {
     (first <= x) & ((x as u64) < (first as u64) + (count as u64))
@@ -78,7 +78,7 @@ pub fn put_surface(l: &mut [u32], i: usize, s: Surface)
 }
 
 // A kind's number.
-pub fn encode_kind(kind: MemoryInitKind) -> u32
+fn encode_kind(kind: MemoryInitKind) -> u32
     ensures { λ r. ⌜ r ≡ encodeKind kind ⌝ }
 {
     match kind {
@@ -88,7 +88,7 @@ pub fn encode_kind(kind: MemoryInitKind) -> u32
 }
 
 // The kind of a number.
-pub fn decode_kind(number: u32) -> MemoryInitKind
+fn decode_kind(number: u32) -> MemoryInitKind
     ensures { λ r. ⌜ r ≡ decodeKind number ⌝ }
 {
     if number == 0 {

@@ -76,7 +76,7 @@ fn view_steps(s: &[u8], pass: u32) -> Progress
 }
 
 // 5 and 10 to 48, and what the views have fixed.
-pub fn start(s: &[u8], pass: u32) -> Progress
+fn start(s: &[u8], pass: u32) -> Progress
     ensures { λ r. ⌜ r ≡ check (session (now (s .entry))) (session (now (s .entry)) .pass pass) ⌝ }
 {
     if !pass_reads(s, pass) {

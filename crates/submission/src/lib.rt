@@ -36,7 +36,7 @@ fn wide(x: u32) -> usize
 }
 
 // A submission begins: the byte forgets that an earlier one cleared it.
-pub fn restart(b: u8) -> u8
+fn restart(b: u8) -> u8
     ensures { λ r. ⌜ r ≡ Status.restart b ⌝ }
 {
     if b == 0 {
@@ -49,7 +49,7 @@ pub fn restart(b: u8) -> u8
 }
 
 // An action at a surface: a needing one clears and fills an empty surface, an implicit one marks it filled.
-pub fn act_byte(kind: MemoryInitKind, b: u8) -> u8
+fn act_byte(kind: MemoryInitKind, b: u8) -> u8
     ensures { λ r. ⌜ r ≡ Status.actByte kind b ⌝ }
 {
     if b == 2 {
@@ -65,7 +65,7 @@ pub fn act_byte(kind: MemoryInitKind, b: u8) -> u8
 }
 
 // A discard at a surface marks it empty.
-pub fn empty_byte(b: u8) -> u8
+fn empty_byte(b: u8) -> u8
     ensures { λ r. ⌜ r ≡ Status.emptyByte b ⌝ }
 {
     if b < 2 { 0 } else { 2 }

@@ -4,7 +4,7 @@ use Prim.Native.Nat.{ℕ, _+_, _*_}
 use native.Mathlib.Omega.{arith}
 use borrow.Author.Needs.{needs}
 use lib.ListN.{drop}
-use Rattle.definition.specs.Sizes.{listBytes}
+use Rattle.definition.specs.Sizes.{countBytes, listBytes}
 use Rattle.definition.specs.Bytes.{u32At}
 use Rattle.wire.specs.Writing.{putNumber}
 use Rattle.lent.specs.Numbers.{numbersAt, putNumbers}
@@ -23,13 +23,12 @@ returns c =
     let m = start .args .stride * start .args .n in
     let end : ℕ = listBytes (start .args .stride) all in
     let whole : start .args .stride * all ≡ h + m = omega arith in
-    let bytes : written .last .0 ≡ putNumbers (putNumber 4 (start .args .b .now) 0 all) (4 + 4 * h) (start .args .xs .now) m = written .ensures .0 ∙ ap (λ l. putNumbers l (4 + 4 * h) (start .args .xs .now) m) (put .ensures) in (
-      ap (λ l. u32At l 0) bytes ∙ number-kept _ (4 + 4 * h) _ m 0 (omega arith) ∙ sym (put-read _ 0 all (omega arith) (start .pre .1 .1)),
-      (
-        ap₂ (λ l (q : ℕ). numbersAt l 4 q) bytes whole ∙ numbers-behind _ _ _ all h m (ap (λ l. numbersAt l (4 + 4 * h) m) (sym bytes) ∙ written .ensures .1),
-        ap (drop end) bytes ∙ numbers-past _ (4 + 4 * h) _ m end (omega arith) ∙ number-past _ 0 all 4 end (omega arith),
-      ),
-    )
+    let bytes : written .last .0 ≡ putNumbers (putNumber 4 (start .args .b .now) 0 all) (countBytes + 4 * h) (start .args .xs .now) m = written .ensures .0 ∙ ap (λ l. putNumbers l (countBytes + 4 * h) (start .args .xs .now) m) (put .ensures) in
+    record {
+      count = ap (λ l. u32At l 0) bytes ∙ number-kept _ (countBytes + 4 * h) _ m 0 (omega arith) ∙ sym (put-read _ 0 all (omega arith) (start .pre .1 .1));
+      numbers = ap₂ (λ l (q : ℕ). numbersAt l countBytes q) bytes whole ∙ numbers-behind _ _ _ all h m (ap (λ l. numbersAt l (countBytes + 4 * h) m) (sym bytes) ∙ written .ensures .1);
+      rest = ap (drop end) bytes ∙ numbers-past _ (countBytes + 4 * h) _ m end (omega arith) ∙ number-past _ 0 all 4 end (omega arith);
+    }
 
 pub pack-spec : {M : Type 1} → statement M
 pack-spec =

@@ -5,12 +5,7 @@ use Rattle.lent.proofs.state.pack_lent.Tie as tie
 
 returns : tie.Need-returns
 returns c =
-    let one = c .before .before .before .before .before .before .before .before .before .before .pack .ensures in
-    let two = c .before .before .before .before .before .before .pack2 .ensures in
-    let three = c .before .before .pack3 .ensures in (
-      record { count = one .0; numbers = one .1 .0; rest = one .1 .1 },
-      (record { count = two .0; numbers = two .1 .0; rest = two .1 .1 }, record { count = three .0; numbers = three .1 .0; rest = three .1 .1 }),
-    )
+    (c .before .before .before .before .before .before .before .before .before .before .pack .ensures, (c .before .before .before .before .before .before .pack2 .ensures, c .before .before .pack3 .ensures))
 
 pub pack-lent-spec : {M : Type 1} → statement M
 pack-lent-spec =
