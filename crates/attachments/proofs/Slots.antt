@@ -3,11 +3,13 @@ use mathlib.Core.Path.{_≡_}
 use mathlib.Core.Bool.{true, false}
 use mathlib.Core.List.{List, [], _∷_}
 use Rattle.definition.specs.Session.{Session, isNone, viewRange}
-use Rattle.definition.specs.Attachments.{Attached, resolveTo, colorOf, resolvePart, slotPart}
+use Rattle.definition.specs.MemoryInit.{Lists, applyPlan}
+use Rattle.definition.specs.Attachments.{Attached, attach, resolveTo, colorOf, resolvePart, slotPart}
 use Rattle.definition.specs.declared.Slot.{Slot}
 use Rattle.laws.proofs.Tests.{clash}
+use Rattle.attachments.specs.declared.Planned.{Planned}
 use Rattle.attachments.specs.declared.DepthStencilPart.{DepthStencilPart}
-use Rattle.attachments.specs.Attached.{PlannedAs, PartOf, none, one}
+use Rattle.attachments.specs.Attached.{planned, PlannedAs, PartOf, none, one}
 
 pub slot-empty : (S : Session) (c : Slot) → isNone (c .view) ≡ true → slotPart S c ≡ []
 unfolding slotPart
@@ -25,6 +27,10 @@ pub slot-resolving : (S : Session) (c : Slot) → isNone (c .view) ≡ false →
     → slotPart S c ≡ colorOf S c ∷ resolveTo (c .resolve) (viewRange (S .view (c .resolve))) ∷ []
 unfolding slotPart resolvePart
 slot-resolving S c e f = simp (e, f)
+
+-- An attachment that is planned so changes the lists so.
+pub planned-attach : (p : Planned) (x : Attached) → PlannedAs p x → (l : Lists) → planned p l ≡ attach x l
+planned-attach p x e l = λ i. applyPlan (e .range i) (e .kind i) (e .discards i) l
 
 -- What holds of no attachment, or of the one that is planned, holds of the part.
 module _ (P : List Attached → Type 0) (S : Session) (d : DepthStencilPart) where

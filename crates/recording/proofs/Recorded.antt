@@ -23,11 +23,12 @@ use Rattle.records.specs.Lent.{decodeSurface, decodeAction}
 use Rattle.memory_init.specs.declared.Counts.{Counts}
 use Rattle.memory_init.specs.Lent.{held, initKind, Leaves}
 use Rattle.memory_init.proofs.Registration.{spared-none, spared-step, leaves-discards}
-use Rattle.room.proofs.Room.{Fit, attach-grows, actions-grow}
+use Rattle.room.specs.Room.{Fit}
+use Rattle.room.proofs.Room.{plan-grows, attach-grows, plan-actions, actions-grow}
 use Rattle.attachments.specs.declared.Planned.{Planned}
-use Rattle.attachments.specs.Attached.{PlannedAs}
-use Rattle.attachments.proofs.Slots.{slot-some, slot-resolving}
-use Rattle.recording.specs.Recorded.{Lent, Fitting, Recorded}
+use Rattle.attachments.specs.Attached.{planned, PlannedAs}
+use Rattle.attachments.proofs.Slots.{slot-some, slot-resolving, planned-attach}
+use Rattle.recording.specs.Recorded.{Lent, Fitting, Written, Recorded}
 
 -- ── clears only grow
 
@@ -40,6 +41,9 @@ register-clears r (some NeedsInitializedMemory) l = omega (arith, length-append 
 discard-clears : (r : Range) (b : Bool) (l : Lists) → length (l .clears) ≤ length (discarded r b l .clears)
 discard-clears r true l = omega arith
 discard-clears r false l = omega arith
+
+plan-clears : (r : Range) (k : Option MemoryInitKind) (b : Bool) (l : Lists) → length (l .clears) ≤ length (applyPlan r k b l .clears)
+plan-clears = plan-grows (λ l. length (l .clears)) register-clears discard-clears
 
 clears-grow : (xs : List Attached) (l : Lists) → length (l .clears) ≤ length (attachAll xs l .clears)
 clears-grow = attach-grows (λ l. length (l .clears)) register-clears discard-clears
@@ -74,21 +78,23 @@ recorded-then xs ys n m r d d₁ d′ a a₁ a′ c c₁ c′ g h = record {
 pub recorded-as : (xs ys : List Attached) (n r : Counts) (d d′ a a′ c c′ : List ℕ) → ys ≡ xs → Recorded xs n r d d′ a a′ c c′ → Recorded ys n r d d′ a a′ c c′
 recorded-as xs ys n r d d′ a a′ c c′ e = subst (λ q. Recorded q n r d d′ a a′ c c′) (sym e)
 
--- An attachment that is planned so.
-pub recorded-attach : (p : Planned) (x : Attached) (space : ℕ) (n r : Counts) (d d′ a a′ c c′ : List ℕ) → PlannedAs p x → Lent n d c
-    → Fit space (applyPlan (p .range) (initKind (p .kind)) (p .discards) (held n d a c)) → Leaves (applyPlan (p .range) (initKind (p .kind)) (p .discards) (held n d a c)) n r d d′ a a′ c c′
-    → Recorded (x ∷ []) n r d d′ a a′ c c′
-recorded-attach p x space n r d d′ a a′ c c′ e lent fit left =
-    let l = applyPlan (p .range) (initKind (p .kind)) (p .discards) (held n d a c) in
-    let same : l ≡ attach x (held n d a c) = λ i. applyPlan (e .range i) (e .kind i) (e .discards i) (held n d a c) in
+-- What a plan makes of the lists is recorded, where there is room for it.
+pub written-plan : (p : Planned) (space : ℕ) (n r : Counts) (d d′ a a′ c c′ : List ℕ) → Lent n d c → Fit space (planned p (held n d a c))
+    → Leaves (planned p (held n d a c)) n r d d′ a a′ c c′ → Written (planned p (held n d a c)) r d d′ a a′ c c′
+written-plan p space n r d d′ a a′ c c′ lent fit left =
+    let l = planned p (held n d a c) in
     let few : r .discards ≤ maxDiscards = omega (arith, leaves-discards l n r d d′ a a′ c c′ left, fit .discards) in
     record {
-      lists = left .lists ∙ same;
+      lists = left .lists;
       spared = spared-step l n r d d d′ a a a′ c c c′ (spared-none n d a c) left (lent .held) few
-          (grown actionNumbers decodeAction (n .actions) (r .actions) a a′ _ (ap (λ (q : Lists). q .actions) (left .lists ∙ same)) (actions-grow (x ∷ []) (held n d a c)))
-          (grown surfaceNumbers decodeSurface (n .clears) (r .clears) c c′ _ (ap (λ (q : Lists). q .clears) (left .lists ∙ same)) (clears-grow (x ∷ []) (held n d a c)));
+          (grown actionNumbers decodeAction (n .actions) (r .actions) a a′ _ (ap (λ (q : Lists). q .actions) (left .lists)) (plan-actions (p .range) (initKind (p .kind)) (p .discards) (held n d a c)))
+          (grown surfaceNumbers decodeSurface (n .clears) (r .clears) c c′ _ (ap (λ (q : Lists). q .clears) (left .lists)) (plan-clears (p .range) (initKind (p .kind)) (p .discards) (held n d a c)));
       small = few;
     }
+
+-- An attachment that is planned so.
+pub recorded-attach : {p : Planned} {n r : Counts} {d d′ a a′ c c′ : List ℕ} → Written (planned p (held n d a c)) r d d′ a a′ c c′ → (x : Attached) → PlannedAs p x → Recorded (x ∷ []) n r d d′ a a′ c c′
+recorded-attach {p} {n} {a = a} {c = c} w x e = record { lists = w .lists ∙ planned-attach p x e _; spared = w .spared; small = w .small }
 
 -- ── what fits
 
@@ -106,8 +112,8 @@ pub fitting-kept : (space after : ℕ) (xs : List Attached) (l : Lists) → afte
 fitting-kept space after xs l e = subst (λ (q : ℕ). Fitting q xs l) (sym e)
 
 -- A planned attachment.
-pub fitting-planned : (space : ℕ) (p : Planned) (x : Attached) (xs : List Attached) (l : Lists) → PlannedAs p x → Fitting space (x ∷ xs) l → Fit space (applyPlan (p .range) (initKind (p .kind)) (p .discards) l)
-fitting-planned space p x xs l e f = subst (Fit space) (λ i. applyPlan (sym (e .range) i) (sym (e .kind) i) (sym (e .discards) i) l) (f (x ∷ []) xs refl)
+pub fitting-planned : (space : ℕ) (p : Planned) (x : Attached) (xs : List Attached) (l : Lists) → PlannedAs p x → Fitting space (x ∷ xs) l → Fit space (planned p l)
+fitting-planned space p x xs l e f = subst (Fit space) (sym (planned-attach p x e l)) (f (x ∷ []) xs refl)
 
 parts-suc : (S : Session) (p : Pass) (n : ℕ) → slotParts S p n ++ slotPart S (p .slot n) ≡ slotParts S p (suc n)
 unfolding slotParts

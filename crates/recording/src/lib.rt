@@ -16,11 +16,11 @@ ghost use Rattle.definition.specs.MemoryInit.{applyPlan};
 ghost use Rattle.definition.specs.Session.{session};
 ghost use Rattle.definition.specs.Attachments.{Attached, depthStencilPart, slotPart, slotParts, attachments};
 ghost use Rattle.memory_init.specs.Lent.{held, initKind};
-ghost use Rattle.attachments.specs.Attached.{PlannedAs, PartOf};
-ghost use Rattle.room.proofs.Room.{Fit};
-ghost use Rattle.recording.specs.Recorded.{Lent, Fitting, Recorded};
+ghost use Rattle.attachments.specs.Attached.{planned, PartOf};
+ghost use Rattle.room.specs.Room.{Fit};
+ghost use Rattle.recording.specs.Recorded.{Lent, Fitting, Written, Recorded};
 
-// An attachment.
+// What an attachment is planned to do.
 fn add_planned(
     discards: &mut [u32],
     actions: &mut [u32],
@@ -28,8 +28,10 @@ fn add_planned(
     n: Counts,
     p: Planned,
 ) -> Counts
-    requires { ⌜ Lent n (now discards) (now clears) × Fit (length (now actions)) (applyPlan (p .range) (initKind (p .kind)) (p .discards) (held n (now discards) (now actions) (now clears))) ⌝ }
-    ensures { λ r. ⌜ ((x : Attached) → PlannedAs p x → Recorded (x ∷ []) n r (now (discards .entry)) (now (discards .exit)) (now (actions .entry)) (now (actions .exit)) (now (clears .entry)) (now (clears .exit))) ⌝ }
+    requires { ⌜ Lent n (now discards) (now clears) × Fit (length (now actions)) (planned p (held n (now discards) (now actions) (now clears))) ⌝ }
+    ensures { λ r. ⌜
+        Written (planned p (held n (now (discards .entry)) (now (actions .entry)) (now (clears .entry)))) r
+        (now (discards .entry)) (now (discards .exit)) (now (actions .entry)) (now (actions .exit)) (now (clears .entry)) (now (clears .exit)) ⌝ }
 {
     let range = p.range;
     let kind = p.kind;

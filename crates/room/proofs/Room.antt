@@ -7,9 +7,9 @@ use mathlib.Core.List.{List, [], _∷_, _++_, map}
 use mathlib.Core.Option.{Option, none, some}
 use lib.Dec.{leb}
 use lib.ListN.{length, length-append}
-use Rattle.definition.specs.Sizes.{maxDiscards, maxActions, maxClears, actionNumbers}
+use Rattle.definition.specs.Sizes.{maxDiscards, maxActions, actionNumbers, maxListed}
 use Rattle.definition.specs.Verdict.{nowhere, _then_, unless}
-use Rattle.definition.specs.MemoryInit.{Lists, implicitAt, matching, registerInitAction, registered, discarded}
+use Rattle.definition.specs.MemoryInit.{Lists, implicitAt, matching, registerInitAction, registered, discarded, applyPlan}
 use Rattle.definition.specs.Attachments.{Attached, rangeIn, kindOf, discards, attach, attachAll}
 use Rattle.definition.specs.Pass.{discardsFit, actionsFit, roomVerdict}
 use Rattle.definition.specs.declared.Range.{Range}
@@ -23,6 +23,7 @@ use Rattle.laws.proofs.Room.{all-held, listed-append, discards-fit, fit-append}
 use Rattle.records.specs.Lent.{actionOf}
 use Rattle.room.specs.declared.course.Course.{Course}
 use Rattle.room.specs.Course.{Tracks}
+use Rattle.room.specs.Room.{Fit}
 use Rattle.room.proofs.Tracking.{counted-fits}
 
 -- ── 49 and 50
@@ -69,31 +70,26 @@ discard-grows : (r : Range) (b : Bool) (l : Lists) → length (l .actions) ≤ l
 discard-grows r true l = omega arith
 discard-grows r false l = omega arith
 
--- A size that grows with each registration and each discard grows with attachments.
-pub attach-grows : (size : Lists → ℕ) → ((r : Range) (k : Option MemoryInitKind) (l : Lists) → size l ≤ size (registered r k l))
-    → ((r : Range) (b : Bool) (l : Lists) → size l ≤ size (discarded r b l)) → (xs : List Attached) (l : Lists) → size l ≤ size (attachAll xs l)
-attach-grows size register discard [] l = omega arith
-attach-grows size register discard (x ∷ xs) l =
-    omega (
-      arith,
-      register (rangeIn x) (kindOf x) l,
-      discard (rangeIn x) (discards x) (registered (rangeIn x) (kindOf x) l),
-      attach-grows size register discard xs (attach x l),
-    )
+-- A size that grows with each registration and each discard grows with a plan, and with attachments.
+module _ (size : Lists → ℕ) (register : (r : Range) (k : Option MemoryInitKind) (l : Lists) → size l ≤ size (registered r k l))
+    (discard : (r : Range) (b : Bool) (l : Lists) → size l ≤ size (discarded r b l)) where
+  pub plan-grows : (r : Range) (k : Option MemoryInitKind) (b : Bool) (l : Lists) → size l ≤ size (applyPlan r k b l)
+  plan-grows r k b l = omega (arith, register r k l, discard r b (registered r k l))
+
+  pub attach-grows : (xs : List Attached) (l : Lists) → size l ≤ size (attachAll xs l)
+  attach-grows [] l = omega arith
+  attach-grows (x ∷ xs) l = omega (arith, plan-grows (rangeIn x) (kindOf x) (discards x) l, attach-grows xs (attach x l))
 
 -- Actions only grow.
+pub plan-actions : (r : Range) (k : Option MemoryInitKind) (b : Bool) (l : Lists) → length (l .actions) ≤ length (applyPlan r k b l .actions)
+plan-actions = plan-grows (λ l. length (l .actions)) register-grows discard-grows
+
 pub actions-grow : (xs : List Attached) (l : Lists) → length (l .actions) ≤ length (attachAll xs l .actions)
 actions-grow = attach-grows (λ l. length (l .actions)) register-grows discard-grows
 
--- The lists have room in the lent lists, of which that of the actions has so many numbers.
-pub record Fit (space : ℕ) (l : Lists) : Type 0 where
-  pub discards : length (l .discards) ≤ maxDiscards
-  pub actions : actionNumbers * length (l .actions) ≤ space
-  pub clears : length (l .clears) ≤ maxClears
-
--- The first attachments xs of a pass for whose discards and actions there is room, from lists with no clears. A pass lists at most nine discards, so that at most 73 clears are returned.
+-- The first attachments xs of a pass for whose discards and actions there is room, from lists with no clears. A clear comes from a discard that the pass finds or lists.
 pub fit-first : (space : ℕ) (xs ys : List Attached) (l : Lists) → discardsFit (xs ++ ys) l ≡ true → actionNumbers * length (attachAll (xs ++ ys) l .actions) ≤ space → length (l .discards) ≤ maxDiscards
-    → length (l .clears) ≡ 0 → listedByAll (xs ++ ys) ≤ 9 → Fit space (attachAll xs l)
+    → length (l .clears) ≡ 0 → listedByAll (xs ++ ys) ≤ maxListed → Fit space (attachAll xs l)
 fit-first space xs ys l d a h z n = record {
   discards = discards-fit xs l (and-left (discardsFit xs l) (discardsFit ys (attachAll xs l)) (sym (fit-append xs ys l) ∙ d)) h;
   actions = omega (arith, actions-grow ys (attachAll xs l), ap (λ (q : Lists). length (q .actions)) (attach-append xs ys l), a);

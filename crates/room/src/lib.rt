@@ -21,21 +21,21 @@ use session::colors;
 use session::derived::is_none;
 use session::slot;
 ghost use mathlib.Core.Path.{_≡_};
-ghost use mathlib.Core.List.{List, _∷_, []};
+ghost use mathlib.Core.List.{List};
 ghost use Prim.Native.Nat.{ℕ, _≤_};
 ghost use lib.ListN.{length};
 ghost use Rattle.definition.specs.Sizes.{maxDiscards, discardsNumbers};
-ghost use Rattle.definition.specs.Session.{Session, session};
-ghost use Rattle.definition.specs.Attachments.{Attached, depthStencilPart, slotPart, slotParts, attachments};
+ghost use Rattle.definition.specs.Session.{session};
+ghost use Rattle.definition.specs.Attachments.{depthStencilPart, slotPart, slotParts, attachments};
 ghost use Rattle.definition.specs.Pass.{newPass, roomVerdict};
 ghost use Rattle.memory_init.specs.Lent.{held};
-ghost use Rattle.attachments.specs.Attached.{PlannedAs, PartOf};
-ghost use Rattle.room.specs.Going.{Goes};
+ghost use Rattle.attachments.specs.Attached.{PartOf};
+ghost use Rattle.room.specs.Going.{Steps, StepsPart, Goes};
 
-// An attachment after the course so far.
+// What an attachment is planned to do, after the course so far.
 fn follow_planned(copy: &mut [u32], course: Course, a: Planned) -> Course
     requires { ⌜ (discardsNumbers ≤ length (now copy)) × (course .held ≤ maxDiscards) ⌝ }
-    ensures { λ r. ⌜ ((x : Attached) → PlannedAs a x → Goes (x ∷ []) course (now (copy .entry)) r (now (copy .exit))) × (r .held ≤ maxDiscards) ⌝ }
+    ensures { λ r. ⌜ Steps a course (now (copy .entry)) r (now (copy .exit)) ⌝ }
 {
     let range = a.range;
     let kind = a.kind;
@@ -45,7 +45,7 @@ fn follow_planned(copy: &mut [u32], course: Course, a: Planned) -> Course
 // The depth-stencil attachment, if there is one.
 fn follow_depth_stencil(copy: &mut [u32], course: Course, d: DepthStencilPart) -> Course
     requires { ⌜ (discardsNumbers ≤ length (now copy)) × (course .held ≤ maxDiscards) ⌝ }
-    ensures { λ r. ⌜ ((S : Session) (xs : List Attached) → PartOf S d xs → Goes xs course (now (copy .entry)) r (now (copy .exit))) × (r .held ≤ maxDiscards) ⌝ }
+    ensures { λ r. ⌜ StepsPart d course (now (copy .entry)) r (now (copy .exit)) ⌝ }
 {
     if !d.present {
         return course;

@@ -1,5 +1,5 @@
--- The lists change as the attachment changes them.
-use Rattle.recording.proofs.Recorded.{recorded-attach}
+-- The lists change as the plan changes them.
+use Rattle.recording.proofs.Recorded.{written-plan}
 use borrow.Author.Needs.{needs}
 use Rattle.recording.proofs.add_planned.Statement.{statement}
 use Rattle.recording.proofs.add_planned.Tie as tie
@@ -8,7 +8,7 @@ returns : tie.Need-returns
 returns c =
     let c6 = c .before .before .before .before .before .before in
     let c14 = c6 .before .before .before .before .before .before .before .before in
-    λ x e. recorded-attach (c14 .args .p) x _ _ _ _ _ _ _ _ _ e (c14 .pre .0) (c14 .pre .1) (c6 .add-pass-texture-init-actions .ensures)
+    written-plan (c14 .args .p) _ _ _ _ _ _ _ _ _ (c14 .pre .0) (c14 .pre .1) (c6 .add-pass-texture-init-actions .ensures)
 
 pub add-planned-spec : {M : Type 1} → statement M
 add-planned-spec =

@@ -1,6 +1,6 @@
--- The lists change as the attachment changes them.
+-- The lists change as the plan changes them.
 use borrow.Author.Needs.{needs}
-use Rattle.room.proofs.Going.{held-small, goes-attach}
+use Rattle.room.proofs.Going.{steps}
 use Rattle.room.proofs.follow_planned.Statement.{statement}
 use Rattle.room.proofs.follow_planned.Tie as tie
 
@@ -8,7 +8,7 @@ returns : tie.Need-returns
 returns c =
     let call = c .before .before in
     let start = call .before .before .before .before in
-    (goes-attach _ _ _ _ (start .args .a) (call .follow .ensures) (start .pre .1), held-small _ _ _ _ (start .args .a) (call .follow .ensures) (start .pre .1))
+    steps (start .args .a) (call .follow .ensures) (start .pre .1)
 
 pub follow-planned-spec : {M : Type 1} → statement M
 follow-planned-spec =

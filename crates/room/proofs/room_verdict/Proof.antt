@@ -1,7 +1,7 @@
 -- The course that has followed every attachment tells the verdict.
 use native.Mathlib.Omega.{arith}
 use mathlib.Core.List.{[]}
-use Rattle.room.proofs.Going.{goes-told}
+use Rattle.room.proofs.Going.{goes-part, goes-told}
 use borrow.Author.Needs.{needs}
 use Rattle.room.proofs.room_verdict.Statement.{statement}
 use Rattle.room.proofs.room_verdict.Tie as tie
@@ -16,7 +16,7 @@ returns c =
     let c9 = c7 .before .before in
     let c12 = c9 .before .before .before in
     let c16 = c12 .before .before .before .before in
-    λ a d. goes-told _ _ _ _ _ _ _ _ _ _ _ (c7 .colors .ensures) (c12 .begin .ensures a d) (c9 .follow-depth-stencil .ensures .0 _ _ (c16 .pre .0)) (c5 .follow-slots .ensures) (simp (c .then .ensures, c .before .before .before .unless .ensures, c .before .unless2 .ensures))
+    λ a d. goes-told _ _ _ _ _ _ _ _ _ _ _ (c7 .colors .ensures) (c12 .begin .ensures a d) (goes-part (c16 .pre .0) (c12 .begin .ensures a d .small) (c9 .follow-depth-stencil .ensures)) (c5 .follow-slots .ensures) (simp (c .then .ensures, c .before .before .before .unless .ensures, c .before .unless2 .ensures))
 
 pub room-verdict-spec : {M : Type 1} → statement M
 room-verdict-spec =
