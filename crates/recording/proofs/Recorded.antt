@@ -9,7 +9,7 @@ use lib.ListN.{length, length-append}
 use Rattle.definition.specs.Sizes.{maxDiscards, surfaceNumbers, actionNumbers}
 use Rattle.definition.specs.Session.{Pass, Session, isNone, viewRange}
 use Rattle.definition.specs.MemoryInit.{Lists, matching, registerInitAction, registered, discarded, applyPlan}
-use Rattle.definition.specs.Attachments.{Attached, discards, attach, attachAll, resolveTo, colorOf, resolvePart, depthStencilPart, slotPart, slotParts, attachments}
+use Rattle.definition.specs.Attachments.{Attached, discards, attachAll, resolveTo, colorOf, resolvePart, depthStencilPart, slotPart, slotParts, attachments}
 use Rattle.definition.specs.declared.Range.{Range}
 use Rattle.definition.specs.declared.Slot.{Slot}
 use Rattle.definition.specs.declared.MemoryInitKind.{MemoryInitKind}

@@ -10,12 +10,10 @@ use memory_init::add_pass_texture_init_actions;
 use session::colors;
 use session::derived::is_none;
 use session::slot;
-ghost use mathlib.Core.List.{_∷_, []};
 ghost use lib.ListN.{length};
-ghost use Rattle.definition.specs.MemoryInit.{applyPlan};
 ghost use Rattle.definition.specs.Session.{session};
-ghost use Rattle.definition.specs.Attachments.{Attached, depthStencilPart, slotPart, slotParts, attachments};
-ghost use Rattle.memory_init.specs.Lent.{held, initKind};
+ghost use Rattle.definition.specs.Attachments.{depthStencilPart, slotPart, slotParts, attachments};
+ghost use Rattle.memory_init.specs.Lent.{held};
 ghost use Rattle.attachments.specs.Attached.{planned, PartOf};
 ghost use Rattle.room.specs.Room.{Fit};
 ghost use Rattle.recording.specs.Recorded.{Lent, Fitting, Written, Recorded};
@@ -28,10 +26,15 @@ fn add_planned(
     n: Counts,
     p: Planned,
 ) -> Counts
-    requires { ⌜ Lent n (now discards) (now clears) × Fit (length (now actions)) (planned p (held n (now discards) (now actions) (now clears))) ⌝ }
+    requires { ⌜
+        Lent n (now discards) (now clears)
+        × Fit (length (now actions)) (planned p (held n (now discards) (now actions) (now clears))) ⌝ }
     ensures { λ r. ⌜
-        Written (planned p (held n (now (discards .entry)) (now (actions .entry)) (now (clears .entry)))) r
-        (now (discards .entry)) (now (discards .exit)) (now (actions .entry)) (now (actions .exit)) (now (clears .entry)) (now (clears .exit)) ⌝ }
+        (let before = held n (now (discards .entry)) (now (actions .entry)) (now (clears .entry)) in
+        Written (planned p before) r
+        (now (discards .entry)) (now (discards .exit))
+        (now (actions .entry)) (now (actions .exit))
+        (now (clears .entry)) (now (clears .exit))) ⌝ }
 {
     let range = p.range;
     let kind = p.kind;
@@ -48,8 +51,18 @@ fn add_depth_stencil(
     clears: &mut [u32],
     n: Counts,
 ) -> Counts
-    requires { ⌜ PartOf (session (now s)) d (depthStencilPart (session (now s)) (session (now s) .pass pass)) × Lent n (now discards) (now clears) × Fitting (length (now actions)) (depthStencilPart (session (now s)) (session (now s) .pass pass)) (held n (now discards) (now actions) (now clears)) ⌝ }
-    ensures { λ r. ⌜ Recorded (depthStencilPart (session (now (s .entry))) (session (now (s .entry)) .pass pass)) n r (now (discards .entry)) (now (discards .exit)) (now (actions .entry)) (now (actions .exit)) (now (clears .entry)) (now (clears .exit)) ⌝ }
+    requires { ⌜
+        (let S = session (now s) in
+        let part = depthStencilPart S (S .pass pass) in
+        PartOf S d part
+        × Lent n (now discards) (now clears)
+        × Fitting (length (now actions)) part (held n (now discards) (now actions) (now clears))) ⌝ }
+    ensures { λ r. ⌜
+        (let S = session (now (s .entry)) in
+        Recorded (depthStencilPart S (S .pass pass)) n r
+        (now (discards .entry)) (now (discards .exit))
+        (now (actions .entry)) (now (actions .exit))
+        (now (clears .entry)) (now (clears .exit))) ⌝ }
 {
     if !d.present {
         return n;
@@ -67,8 +80,14 @@ fn add_slot(
     clears: &mut [u32],
     n: Counts,
 ) -> Counts
-    requires { ⌜ Lent n (now discards) (now clears) × Fitting (length (now actions)) (slotPart (session (now s)) c) (held n (now discards) (now actions) (now clears)) ⌝ }
-    ensures { λ r. ⌜ Recorded (slotPart (session (now (s .entry))) c) n r (now (discards .entry)) (now (discards .exit)) (now (actions .entry)) (now (actions .exit)) (now (clears .entry)) (now (clears .exit)) ⌝ }
+    requires { ⌜
+        Lent n (now discards) (now clears)
+        × Fitting (length (now actions)) (slotPart (session (now s)) c) (held n (now discards) (now actions) (now clears)) ⌝ }
+    ensures { λ r. ⌜
+        Recorded (slotPart (session (now (s .entry))) c) n r
+        (now (discards .entry)) (now (discards .exit))
+        (now (actions .entry)) (now (actions .exit))
+        (now (clears .entry)) (now (clears .exit)) ⌝ }
 {
     if is_none(c.view) {
         return n;
@@ -96,8 +115,16 @@ fn add_slots(
     clears: &mut [u32],
     n: Counts,
 ) -> Counts
-    requires { ⌜ Lent n (now discards) (now clears) × Fitting (length (now actions)) (slotParts (session (now s)) (session (now s) .pass pass) slots) (held n (now discards) (now actions) (now clears)) ⌝ }
-    ensures { λ r. ⌜ Recorded (slotParts (session (now (s .entry))) (session (now (s .entry)) .pass pass) slots) n r (now (discards .entry)) (now (discards .exit)) (now (actions .entry)) (now (actions .exit)) (now (clears .entry)) (now (clears .exit)) ⌝ }
+    requires { ⌜
+        (let S = session (now s) in
+        Lent n (now discards) (now clears)
+        × Fitting (length (now actions)) (slotParts S (S .pass pass) slots) (held n (now discards) (now actions) (now clears))) ⌝ }
+    ensures { λ r. ⌜
+        (let S = session (now (s .entry)) in
+        Recorded (slotParts S (S .pass pass) slots) n r
+        (now (discards .entry)) (now (discards .exit))
+        (now (actions .entry)) (now (actions .exit))
+        (now (clears .entry)) (now (clears .exit))) ⌝ }
 {
     let mut after = n;
     let mut k = 0u32;
@@ -118,8 +145,17 @@ pub fn add_attachments(
     clears: &mut [u32],
     n: Counts,
 ) -> Counts
-    requires { ⌜ PartOf (session (now s)) d (depthStencilPart (session (now s)) (session (now s) .pass pass)) × Lent n (now discards) (now clears) × Fitting (length (now actions)) (attachments (session (now s)) (session (now s) .pass pass)) (held n (now discards) (now actions) (now clears)) ⌝ }
-    ensures { λ r. ⌜ Recorded (attachments (session (now (s .entry))) (session (now (s .entry)) .pass pass)) n r (now (discards .entry)) (now (discards .exit)) (now (actions .entry)) (now (actions .exit)) (now (clears .entry)) (now (clears .exit)) ⌝ }
+    requires { ⌜
+        (let S = session (now s) in
+        PartOf S d (depthStencilPart S (S .pass pass))
+        × Lent n (now discards) (now clears)
+        × Fitting (length (now actions)) (attachments S (S .pass pass)) (held n (now discards) (now actions) (now clears))) ⌝ }
+    ensures { λ r. ⌜
+        (let S = session (now (s .entry)) in
+        Recorded (attachments S (S .pass pass)) n r
+        (now (discards .entry)) (now (discards .exit))
+        (now (actions .entry)) (now (actions .exit))
+        (now (clears .entry)) (now (clears .exit))) ⌝ }
 {
     let first = add_depth_stencil(s, pass, d, discards, actions, clears, n);
     add_slots(s, pass, colors(s, pass), discards, actions, clears, first)

@@ -31,7 +31,9 @@ pub struct Course {
 
 // The course before a pass: the discards are copied.
 pub fn begin(discards: &[u32], n: Counts, copy: &mut [u32]) -> Course
-    requires { ⌜ (surfaceNumbers * n .discards ≤ length (now discards)) × ((surfaceNumbers * n .discards ≤ length (now copy)) × (n .discards ≤ maxDiscards)) ⌝ }
+    requires { ⌜
+        (surfaceNumbers * n .discards ≤ length (now discards))
+        × ((surfaceNumbers * n .discards ≤ length (now copy)) × (n .discards ≤ maxDiscards)) ⌝ }
     ensures { λ r. ⌜ ((a c : List ℕ) → Tracks r (now (copy .exit)) true (newPass (held n (now (discards .entry)) a c))) ⌝ }
 {
     let count = n.discards;
@@ -72,7 +74,10 @@ fn returned_by(kind: MemoryInitKind, n: usize) -> usize
 // A registration.
 fn follow_init_action(copy: &mut [u32], c: Course, range: Range, kind: MemoryInitKind) -> Course
     requires { ⌜ (discardsNumbers ≤ length (now copy)) × (c .held ≤ maxDiscards) ⌝ }
-    ensures { λ r. ⌜ ((ok : Bool) (l : Lists) → Tracks c (now (copy .entry)) ok l → Tracks r (now (copy .exit)) ok (registerInitAction range kind l)) × (r .held ≤ maxDiscards) ⌝ }
+    ensures { λ r. ⌜
+        ((ok : Bool) (l : Lists) → Tracks c (now (copy .entry)) ok l
+        → Tracks r (now (copy .exit)) ok (registerInitAction range kind l))
+        × (r .held ≤ maxDiscards) ⌝ }
 {
     let kept = retain_others(copy, c.held, range);
     let returned = returned_by(kind, c.held - kept);
@@ -87,7 +92,10 @@ fn follow_init_action(copy: &mut [u32], c: Course, range: Range, kind: MemoryIni
 // A registration or none.
 fn follow_register(copy: &mut [u32], c: Course, range: Range, kind: InitKind) -> Course
     requires { ⌜ (discardsNumbers ≤ length (now copy)) × (c .held ≤ maxDiscards) ⌝ }
-    ensures { λ r. ⌜ ((ok : Bool) (l : Lists) → Tracks c (now (copy .entry)) ok l → Tracks r (now (copy .exit)) ok (registered range (initKind kind) l)) × (r .held ≤ maxDiscards) ⌝ }
+    ensures { λ r. ⌜
+        ((ok : Bool) (l : Lists) → Tracks c (now (copy .entry)) ok l
+        → Tracks r (now (copy .exit)) ok (registered range (initKind kind) l))
+        × (r .held ≤ maxDiscards) ⌝ }
 {
     let InitKind::Some(k) = kind else {
         return c;
@@ -98,7 +106,10 @@ fn follow_register(copy: &mut [u32], c: Course, range: Range, kind: InitKind) ->
 // A discard: it needs a place.
 fn follow_discard(copy: &mut [u32], c: Course, range: Range) -> Course
     requires { ⌜ (discardsNumbers ≤ length (now copy)) × (c .held ≤ maxDiscards) ⌝ }
-    ensures { λ r. ⌜ ((ok : Bool) (l : Lists) → Tracks c (now (copy .entry)) ok l → Tracks r (now (copy .exit)) (ok && leb (length (discarded range true l .discards)) maxDiscards) (discarded range true l)) ⌝ }
+    ensures { λ r. ⌜
+        ((ok : Bool) (l : Lists) → Tracks c (now (copy .entry)) ok l
+        → (let after = discarded range true l in
+        Tracks r (now (copy .exit)) (ok && leb (length (after .discards)) maxDiscards) after)) ⌝ }
 {
     let count = c.held;
     if MAX_DISCARDS <= count {
@@ -119,7 +130,10 @@ fn follow_discard(copy: &mut [u32], c: Course, range: Range) -> Course
 // An attachment: a registration or none, then a discard or none. Once a step has not fitted, nothing is followed.
 pub fn follow(copy: &mut [u32], c: Course, range: Range, kind: InitKind, discarding: bool) -> Course
     requires { ⌜ (discardsNumbers ≤ length (now copy)) × (c .held ≤ maxDiscards) ⌝ }
-    ensures { λ r. ⌜ ((ok : Bool) (l : Lists) → Tracks c (now (copy .entry)) ok l → Tracks r (now (copy .exit)) (ok && leb (length (applyPlan range (initKind kind) discarding l .discards)) maxDiscards) (applyPlan range (initKind kind) discarding l)) ⌝ }
+    ensures { λ r. ⌜
+        ((ok : Bool) (l : Lists) → Tracks c (now (copy .entry)) ok l
+        → (let after = applyPlan range (initKind kind) discarding l in
+        Tracks r (now (copy .exit)) (ok && leb (length (after .discards)) maxDiscards) after)) ⌝ }
 {
     if !c.fits {
         return c;

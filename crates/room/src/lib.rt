@@ -72,7 +72,9 @@ fn follow_slot(s: &[u8], c: Slot, copy: &mut [u32], course: Course) -> Course
 // The first n slots.
 fn follow_slots(s: &[u8], pass: u32, n: u32, copy: &mut [u32], course: Course) -> Course
     requires { ⌜ (discardsNumbers ≤ length (now copy)) × (course .held ≤ maxDiscards) ⌝ }
-    ensures { λ r. ⌜ Goes (slotParts (session (now (s .entry))) (session (now (s .entry)) .pass pass) n) course (now (copy .entry)) r (now (copy .exit)) ⌝ }
+    ensures { λ r. ⌜
+        (let S = session (now (s .entry)) in
+        Goes (slotParts S (S .pass pass) n) course (now (copy .entry)) r (now (copy .exit))) ⌝ }
 {
     let mut after = course;
     let mut k = 0u32;
@@ -91,8 +93,14 @@ pub fn room_verdict(
     discards: &[u32],
     n: Counts,
 ) -> Verdict
-    requires { ⌜ PartOf (session (now s)) d (depthStencilPart (session (now s)) (session (now s) .pass pass)) × (discardsNumbers ≤ length (now discards)) × (n .discards ≤ maxDiscards) ⌝ }
-    ensures { λ r. ⌜ ((a c : List ℕ) → r ≡ roomVerdict (attachments (session (now (s .entry))) (session (now (s .entry)) .pass pass)) (newPass (held n (now (discards .entry)) a c))) ⌝ }
+    requires { ⌜
+        (let S = session (now s) in
+        PartOf S d (depthStencilPart S (S .pass pass))
+        × (discardsNumbers ≤ length (now discards))
+        × (n .discards ≤ maxDiscards)) ⌝ }
+    ensures { λ r. ⌜
+        (let S = session (now (s .entry)) in
+        (a c : List ℕ) → r ≡ roomVerdict (attachments S (S .pass pass)) (newPass (held n (now (discards .entry)) a c))) ⌝ }
 {
     let mut copy = [0u32; DISCARDS_NUMBERS];
     let begun = begin(discards, n, &mut copy);
