@@ -42,6 +42,10 @@ passed false b c d e = absurd (omega (arith, e))
 tests : (s : List ℕ) → sessionRefusal s ≡ 0 → Passed (lengthRight s) (headerRight s) (texturesRight (session s)) (viewsRight (session s))
 tests s e = passed _ _ _ _ (refused-by s refl refl refl refl ∙ e)
 
+-- Every view row can be read.
+pub views-right : (s : List ℕ) → sessionRefusal s ≡ 0 → viewsRight (session s) ≡ true
+views-right s e = tests s e .fourth
+
 -- ── a texture row
 
 within : (low high n : ℕ) → between low high n ≡ true → (low ≤ n) × (n ≤ high)

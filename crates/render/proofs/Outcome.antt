@@ -27,7 +27,8 @@ use Rattle.memory_init.specs.declared.Counts.{Counts}
 use Rattle.memory_init.specs.Lent.{held, Within, Spared}
 use Rattle.memory_init.proofs.Registration.{spared-none}
 use Rattle.readable.proofs.Valid.{valid-pass}
-use Rattle.room.proofs.Room.{Fit, fit-first}
+use Rattle.room.specs.Room.{Fit}
+use Rattle.room.proofs.Room.{fit-first}
 use Rattle.recording.specs.Recorded.{Fitting, Recorded}
 use Rattle.recording.proofs.Recorded.{fitting-as}
 use Rattle.render.specs.declared.PassReply.{PassReply}

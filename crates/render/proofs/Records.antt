@@ -1,11 +1,11 @@
 -- What is set at the count stands at the end of the list, and the records past it stay blank.
-use Prim.Native.Nat.{ℕ, zero, suc, _+_, _≤_, _<_}
+use Prim.Native.Nat.{ℕ, zero, suc, _+_, _*_, _≤_, _<_}
 use native.Mathlib.Omega.{arith}
 use mathlib.Core.Path.{_≡_, refl, sym, ap, subst, _∙_}
 use mathlib.Core.Bool.{Bool, true, false, not, _&&_, cond}
 use mathlib.Core.List.{List, [], _∷_, _++_, map, append-assoc, append-nil}
 use lib.ListN.{length, take, set, length-append}
-use Rattle.definition.specs.Sizes.{maxAttachments}
+use Rattle.definition.specs.Sizes.{maxSlots, maxAttachments}
 use Rattle.definition.specs.Session.{Pass, Session, isNone, viewRange}
 use Rattle.definition.specs.Attachments.{Attached, resolveTo, colorOf, slotPart, slotParts, resolvePart}
 use Rattle.definition.specs.Pass.{attachmentReply}
@@ -71,7 +71,7 @@ slot-replies S c xs =
     go false false x y = refl
 
 -- The depth-stencil attachment stands first.
-pub first-present : (S : Session) (d : DepthStencilPart) (xs : List Attached) (a l : List Attachment) (n : ℕ) → PartOf S d xs → d .present ≡ true → a ≡ d .reply ∷ l → l ≡ padded 16 [] → n ≡ 1
+pub first-present : (S : Session) (d : DepthStencilPart) (xs : List Attached) (a l : List Attachment) (n : ℕ) → PartOf S d xs → d .present ≡ true → a ≡ d .reply ∷ l → l ≡ padded (2 * maxSlots) [] → n ≡ 1
     → Holds a n (map (attachmentReply S) xs)
 first-present S d _ a l n (none x) h ea el en = clash h (x .absent)
 first-present S d _ a l n (one x) h ea el en = record { records = ea ∙ λ i. x .reply i ∷ el i; count = en }

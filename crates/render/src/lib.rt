@@ -31,6 +31,7 @@ ghost use mathlib.Core.Bool.{true};
 ghost use Prim.Native.Nat.{_≤_};
 ghost use Rattle.definition.specs.Sizes.{maxSlots};
 ghost use Rattle.definition.specs.Session.{session};
+ghost use Rattle.definition.specs.Readable.{viewsRight};
 ghost use Rattle.definition.specs.Check.{check, viewSteps};
 ghost use Rattle.definition.specs.Verdict.{isFine};
 ghost use Rattle.definition.specs.Attachments.{depthStencilPart};
@@ -117,8 +118,12 @@ fn refusal(v: Verdict, n: Counts) -> PassOutcome
 
 // What an accepted pass replies, whose depth-stencil part is d: its divergent aspect is cleared after it.
 fn finish(s: &[u8], pass: u32, d: DepthStencilPart, seen: Seen, n: Counts) -> PassOutcome
-    requires { ⌜ PartOf (session (now s)) d (depthStencilPart (session (now s)) (session (now s) .pass pass)) × (session (now s) .pass pass .colors ≤ maxSlots) ⌝ }
-    ensures { λ r. ⌜ r ≡ acceptedOutcome (session (now (s .entry))) (At.attachments (session (now (s .entry))) (session (now (s .entry)) .pass pass)) seen n ⌝ }
+    requires { ⌜
+        (let S = session (now s) in
+        PartOf S d (depthStencilPart S (S .pass pass)) × (S .pass pass .colors ≤ maxSlots)) ⌝ }
+    ensures { λ r. ⌜
+        (let S = session (now (s .entry)) in
+        r ≡ acceptedOutcome S (At.attachments S (S .pass pass)) seen n) ⌝ }
 {
     let slots = session::colors(s, pass);
     PassOutcome {
@@ -148,8 +153,19 @@ fn accept(
     clears: &mut [u32],
     n: Counts,
 ) -> PassOutcome
-    requires { ⌜ PartOf (session (now s)) d (depthStencilPart (session (now s)) (session (now s) .pass pass)) × PassRoom n (now discards) (now actions) (now clears) × (session (now s) .pass pass .colors ≤ maxSlots) × (isFine (roomVerdict (At.attachments (session (now s)) (session (now s) .pass pass)) (newPass (held n (now discards) (now actions) (now clears)))) ≡ true) ⌝ }
-    ensures { λ r. ⌜ Accepted (session (now (s .entry))) (At.attachments (session (now (s .entry))) (session (now (s .entry)) .pass pass)) seen n r (now (discards .entry)) (now (discards .exit)) (now (actions .entry)) (now (actions .exit)) (now (clears .entry)) (now (clears .exit)) ⌝ }
+    requires { ⌜
+        (let S = session (now s) in
+        let before = newPass (held n (now discards) (now actions) (now clears)) in
+        PartOf S d (depthStencilPart S (S .pass pass))
+        × PassRoom n (now discards) (now actions) (now clears)
+        × (S .pass pass .colors ≤ maxSlots)
+        × (isFine (roomVerdict (At.attachments S (S .pass pass)) before) ≡ true)) ⌝ }
+    ensures { λ r. ⌜
+        (let S = session (now (s .entry)) in
+        Accepted S (At.attachments S (S .pass pass)) seen n r
+        (now (discards .entry)) (now (discards .exit))
+        (now (actions .entry)) (now (actions .exit))
+        (now (clears .entry)) (now (clears .exit))) ⌝ }
 {
     let cleared = Counts {
         discards: n.discards,
@@ -160,7 +176,7 @@ fn accept(
     finish(s, pass, d, seen, after)
 }
 
-// One pass check. Judging writes nothing: 5 and 10 to 48 read the session, 49 and 50 follow a copy of the discards.
+// One pass check, of a session whose views can be read. Judging writes nothing: 5 and 10 to 48 read the session, 49 and 50 follow a copy of the discards.
 pub fn check_pass(
     s: &[u8],
     pass: u32,
@@ -169,8 +185,14 @@ pub fn check_pass(
     clears: &mut [u32],
     n: Counts,
 ) -> PassOutcome
+    requires { ⌜ viewsRight (session (now s)) ≡ true ⌝ }
     requires { ⌜ PassRoom n (now discards) (now actions) (now clears) ⌝ }
-    ensures { λ r. ⌜ Checked (session (now (s .entry))) (session (now (s .entry)) .pass pass) n r (now (discards .entry)) (now (discards .exit)) (now (actions .entry)) (now (actions .exit)) (now (clears .entry)) (now (clears .exit)) ⌝ }
+    ensures { λ r. ⌜
+        (let S = session (now (s .entry)) in
+        Checked S (S .pass pass) n r
+        (now (discards .entry)) (now (discards .exit))
+        (now (actions .entry)) (now (actions .exit))
+        (now (clears .entry)) (now (clears .exit))) ⌝ }
 {
     let judged = start(s, pass);
     let verdict = judged.verdict;

@@ -11,11 +11,11 @@ use session::derived::is_none;
 use session::slot;
 ghost use mathlib.Core.Path.{_≡_};
 ghost use mathlib.Core.Bool.{not, _&&_};
-ghost use mathlib.Core.List.{List, [], _++_, map};
+ghost use mathlib.Core.List.{[], _++_, map};
 ghost use Prim.Native.Nat.{_≤_};
 ghost use Rattle.definition.specs.Sizes.{maxSlots};
 ghost use Rattle.definition.specs.Session.{session, isNone};
-ghost use Rattle.definition.specs.Attachments.{Attached, slotParts};
+ghost use Rattle.definition.specs.Attachments.{depthStencilPart, slotParts};
 ghost use Rattle.definition.specs.Pass.{attachmentReply};
 ghost use Rattle.attachments.specs.Attached.{PartOf};
 ghost use Rattle.render.specs.Records.{listed};
@@ -51,10 +51,14 @@ fn resolves(c: Slot) -> bool
     !is_none(c.view) & !is_none(c.resolve)
 }
 
-// The depth-stencil attachment d, then each colour of the first n slots and its resolve target.
+// The pass's depth-stencil attachment d, then each colour of the first n slots and its resolve target.
 pub fn render_attachments(s: &[u8], pass: u32, d: DepthStencilPart, n: u32) -> Attachments
+    requires { ⌜ (let S = session (now s) in PartOf S d (depthStencilPart S (S .pass pass))) ⌝ }
     requires { ⌜ n ≤ maxSlots ⌝ }
-    ensures { λ r. ⌜ ((xs : List Attached) → PartOf (session (now (s .entry))) d xs → r ≡ listed (map (attachmentReply (session (now (s .entry)))) (xs ++ slotParts (session (now (s .entry))) (session (now (s .entry)) .pass pass) n))) ⌝ }
+    ensures { λ r. ⌜
+        (let S = session (now (s .entry)) in
+        let p = S .pass pass in
+        r ≡ listed (map (attachmentReply S) (depthStencilPart S p ++ slotParts S p n))) ⌝ }
 {
     let mut records = [empty_reply(); MAX_ATTACHMENTS];
     let mut count = 0u32;

@@ -16,7 +16,7 @@ returns c =
 room-verdict-requires : tie.Need-room-verdict-requires
 room-verdict-requires c κs =
     let c11 = c .before .before .before .before .before .before .before .before .before .before .before in
-    (c .before .depth-stencil-part .ensures, c11 .pre .discards, c11 .pre .held)
+    (c .before .depth-stencil-part .ensures, c11 .pre .1 .discards, c11 .pre .1 .held)
 
 returns-2 : tie.Need-returns-2
 returns-2 c =
@@ -35,7 +35,7 @@ accept-requires c κs =
     let c9 = c8 .before in
     let c12 = c9 .before .before .before in
     let c17 = c12 .before .before .before .before .before in
-    (c7 .depth-stencil-part .ensures, c17 .pre, few-colors _ _ (ap (λ (q : Progress). isFine (q .verdict)) (sym (c12 .start .ensures)) ∙ (sym (c9 .is-fine .ensures) ∙ not-false _ (c8 .if1 .left))), ap isFine (sym (c5 .room-verdict .ensures (c17 .args .actions .now) (c17 .args .clears .now))) ∙ sym (c4 .is-fine2 .ensures) ∙ not-false _ (c .before .before .before .if2 .left))
+    (c7 .depth-stencil-part .ensures, c17 .pre .1, few-colors _ _ (ap (λ (q : Progress). isFine (q .verdict)) (sym (c12 .start .ensures)) ∙ (sym (c9 .is-fine .ensures) ∙ not-false _ (c8 .if1 .left))), ap isFine (sym (c5 .room-verdict .ensures (c17 .args .actions .now) (c17 .args .clears .now))) ∙ sym (c4 .is-fine2 .ensures) ∙ not-false _ (c .before .before .before .if2 .left))
 
 returns-3 : tie.Need-returns-3
 returns-3 c =

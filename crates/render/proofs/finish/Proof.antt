@@ -15,7 +15,7 @@ returns c = λ i. record {
     «is_depth_read_only» = depth-first _ (c .before .before .before .before .args .d) _ (c .before .before .before .before .pre .0) i;
     «is_stencil_read_only» = stencil-first _ (c .before .before .before .before .args .d) _ (c .before .before .before .before .pre .0) i;
     divergent = divergent-first _ (c .before .before .before .before .args .d) _ (c .before .before .before .before .pre .0) i;
-    attachments = attachments-listed _ _ _ _ (c .before .before .colors .ensures) (c .render-attachments .ensures _ (c .before .before .before .before .pre .0)) i;
+    attachments = attachments-listed _ _ _ _ (c .before .before .colors .ensures) (c .render-attachments .ensures) i;
     clears = c .before .before .before .before .args .n .clears;
   };
   counts = c .before .before .before .before .args .n;

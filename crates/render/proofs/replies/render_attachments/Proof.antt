@@ -1,5 +1,5 @@
 -- The invariant: what the records hold is what they held before the loop, then the replies of the first k slots.
-use mathlib.Core.Path.{sym, ap, _∙_}
+use mathlib.Core.Path.{_≡_, sym, ap, _∙_}
 use mathlib.Core.Logic.{⊎-elim}
 use mathlib.Core.Bool.{not, _&&_, cond}
 use native.Mathlib.Omega.{arith}
@@ -8,7 +8,7 @@ use mathlib.Core.List.{List, [], _∷_, _++_, map, append-nil}
 use lib.ListN.{set}
 use borrow.Author.Needs.{needs}
 use Rattle.definition.specs.Session.{session, isNone, viewRange}
-use Rattle.definition.specs.Attachments.{slotParts, colorOf, resolveTo}
+use Rattle.definition.specs.Attachments.{depthStencilPart, slotParts, colorOf, resolveTo}
 use Rattle.definition.specs.Pass.{attachmentReply}
 use Rattle.definition.specs.declared.Attachment.{Attachment}
 use Rattle.render.proofs.Records.{Holds, holds-more, holds-same, first-present, first-absent, slot-turn, slots-all}
@@ -48,9 +48,10 @@ resolved : (c : tie.Joined3 Inv-loop μ-loop) (xs : List Attachment) → Holds (
 resolved c xs h =
     let test = c .before in
     let color = test .before in
-    let S = session (color .before .before .before .before .before .before .before .before .args .s .now) in
+    let start = color .before .before .before .before .before .before .before .before in
+    let S = session (start .args .s .now) in
     ⊎-elim
-    (λ w. holds-more _ _ _ _ xs _ _ h (omega (arith, colored-count color)) (sym (test .resolves .ensures) ∙ w .0 .taken) (w .3 ∙ ap (λ q. set (color .if2 .records) (color .if2 .count) q) (w .2 .ensures S (viewRange (S .view (color .before .before .slot .result .resolve))))) (w .4))
+    (λ w. holds-more _ _ _ _ xs _ _ h (omega (arith, colored-count color, start .pre .1)) (sym (test .resolves .ensures) ∙ w .0 .taken) (w .3 ∙ ap (λ q. set (color .if2 .records) (color .if2 .count) q) (w .2 .ensures S (viewRange (S .view (color .before .before .slot .result .resolve))))) (w .4))
     (λ w. holds-same _ _ _ _ xs _ _ h (sym (test .resolves .ensures) ∙ w .0 .left) (w .1) (w .2))
     (c .if3 .came)
 
@@ -90,10 +91,14 @@ returns c =
     let join = loop .before in
     let blanks = join .before in
     let start = blanks .before .before in
-    λ xs part. slots-all _ _ (loop .loop .k) _ _ _ xs (omega arith) (loop .loop .inv .0 _ (
+    let part = start .pre .0 in
+    let e : loop .loop .k ≡ start .args .n = omega arith in
+    let S = session (start .args .s .now) in
+    let p = S .pass (start .args .pass) in
+    slots-all S p (loop .loop .k) _ _ _ (depthStencilPart S p) e (loop .loop .inv .0 _ (
     ⊎-elim
-    (λ w. first-present _ _ xs _ _ _ part (w .0 .taken) (w .2) (simp (blanks .empty-reply .ensures)) (w .3))
-    (λ w. first-absent _ _ xs _ _ part (w .0 .left) (w .1 ∙ simp (blanks .empty-reply .ensures)) (w .2))
+    (λ w. first-present S _ _ _ _ _ part (w .0 .taken) (w .2) (simp (blanks .empty-reply .ensures)) (w .3))
+    (λ w. first-absent S _ _ _ _ part (w .0 .left) (w .1 ∙ simp (blanks .empty-reply .ensures)) (w .2))
     (join .if1 .came)
     ))
 
