@@ -12,11 +12,12 @@ use render::check_pass;
 use session::ends;
 use session::header::pass_count;
 ghost use mathlib.Core.Path.{_≡_};
+ghost use mathlib.Core.Bool.{true};
 ghost use Prim.Native.Nat.{_+_, _*_, _≤_, _<_};
 ghost use lib.ListN.{length, drop};
-ghost use Rattle.definition.specs.Sizes.{maxPasses, maxDiscards, maxClears, discardsNumbers, actionsNumbers, clearsNumbers, rowNumbers, rowBytes};
+ghost use Rattle.definition.specs.Sizes.{maxDiscards, maxClears, discardsNumbers, actionsNumbers, clearsNumbers, rowNumbers, rowBytes, rowsBytes};
 ghost use Rattle.definition.specs.Session.{session};
-ghost use Rattle.definition.specs.Readable.{sessionRefusal};
+ghost use Rattle.definition.specs.Readable.{viewsRight, sessionRefusal};
 ghost use Rattle.definition.specs.Calls.{noEntries};
 ghost use Rattle.definition.specs.Program.{lines};
 ghost use Rattle.memory_init.specs.Lent.{Within};
@@ -71,8 +72,17 @@ fn put_pass(
     c: &mut [u32],
     n: Counts,
 ) -> Counts
-    requires { ⌜ PassRoom n (now d) (now a) (now c) × (Within n × ((rowBytes * k + rowBytes ≤ length (now rows)) × (k < passes))) ⌝ }
-    ensures { λ r. ⌜ Judged (session (now (s .entry))) k passes n r (now (rows .entry)) (now (rows .exit)) (now (d .entry)) (now (d .exit)) (now (a .entry)) (now (a .exit)) (now (c .entry)) (now (c .exit)) ⌝ }
+    requires { ⌜ viewsRight (session (now s)) ≡ true ⌝ }
+    requires { ⌜ PassRoom n (now d) (now a) (now c) ⌝ }
+    requires { ⌜ Within n ⌝ }
+    requires { ⌜ rowBytes * k + rowBytes ≤ length (now rows) ⌝ }
+    requires { ⌜ k < passes ⌝ }
+    ensures { λ r. ⌜
+        Judged (session (now (s .entry))) k passes n r
+        (now (rows .entry)) (now (rows .exit))
+        (now (d .entry)) (now (d .exit))
+        (now (a .entry)) (now (a .exit))
+        (now (c .entry)) (now (c .exit)) ⌝ }
 {
     let outcome = check_pass(s, k, d, a, c, n);
     let reply = outcome.reply;
@@ -83,7 +93,11 @@ fn put_pass(
 
 // The rows of so many passes, from lists without entries.
 fn put_rows(s: &[u8], passes: u32, rows: &mut [u8], d: &mut [u32], a: &mut [u32], c: &mut [u32])
-    requires { ⌜ (rowBytes * passes ≤ length (now rows)) × ((discardsNumbers ≤ length (now d)) × ((actionsNumbers ≤ length (now a)) × (clearsNumbers ≤ length (now c)))) ⌝ }
+    requires { ⌜ viewsRight (session (now s)) ≡ true ⌝ }
+    requires { ⌜ rowBytes * passes ≤ length (now rows) ⌝ }
+    requires { ⌜ discardsNumbers ≤ length (now d) ⌝ }
+    requires { ⌜ actionsNumbers ≤ length (now a) ⌝ }
+    requires { ⌜ clearsNumbers ≤ length (now c) ⌝ }
     ensures { λ _. ⌜ rowsIn (now (rows .exit)) passes ≡ lines (session (now (s .entry))) 0 passes noEntries ⌝ }
     ensures { λ _. ⌜ drop (rowBytes * passes) (now (rows .exit)) ≡ drop (rowBytes * passes) (now (rows .entry)) ⌝ }
 {
@@ -101,9 +115,13 @@ fn put_rows(s: &[u8], passes: u32, rows: &mut [u8], d: &mut [u32], a: &mut [u32]
 
 // The rows of a readable session; the bytes past them stay.
 pub fn session_rows(s: &[u8], rows: &mut [u8])
-    requires { ⌜ (sessionRefusal (now s) ≡ 0) × (rowBytes * maxPasses ≤ length (now rows)) ⌝ }
-    ensures { λ _. ⌜ rowsIn (now (rows .exit)) (session (now (s .entry)) .passCount) ≡ lines (session (now (s .entry))) 0 (session (now (s .entry)) .passCount) noEntries ⌝ }
-    ensures { λ _. ⌜ drop (rowBytes * session (now (s .entry)) .passCount) (now (rows .exit)) ≡ drop (rowBytes * session (now (s .entry)) .passCount) (now (rows .entry)) ⌝ }
+    requires { ⌜ (sessionRefusal (now s) ≡ 0) × (rowsBytes ≤ length (now rows)) ⌝ }
+    ensures { λ _. ⌜
+        (let S = session (now (s .entry)) in
+        rowsIn (now (rows .exit)) (S .passCount) ≡ lines S 0 (S .passCount) noEntries) ⌝ }
+    ensures { λ _. ⌜
+        (let end = rowBytes * session (now (s .entry)) .passCount in
+        drop end (now (rows .exit)) ≡ drop end (now (rows .entry))) ⌝ }
 {
     let mut d: [u32; DISCARDS_NUMBERS] = [0; DISCARDS_NUMBERS];
     let mut a: [u32; ACTIONS_NUMBERS] = [0; ACTIONS_NUMBERS];

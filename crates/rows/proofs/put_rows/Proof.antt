@@ -4,6 +4,7 @@ use native.Mathlib.Omega.{arith}
 use Prim.Native.Nat.{_-_, _≤_}
 use lib.ListN.{length}
 use Rattle.definition.specs.Session.{session}
+use Rattle.render.specs.Outcome.{PassRoom}
 use Rattle.render.proofs.Room.{room-whole}
 use Rattle.rows.proofs.Rows.{Walked, walked-none, walked-pass, walked-all}
 use Rattle.rows.proofs.put_rows.Statement.{statement}
@@ -23,15 +24,14 @@ put-pass-requires c κs =
     let loop = c .before .before .before .before .before .loop in
     let inv = loop .inv in
     let pre = c .before .before .before .before .before .before .before .before .before .before .before .pre in
-    let less = c .before .before .before .before .loop-test .taken in (
-      record {
-        held = inv .0 .within .discards;
-        discards = omega (arith, inv .3, pre .1 .0);
-        actions = room-whole (loop .n) (loop .a) (omega (arith, inv .4, pre .1 .1 .0));
-        clears = omega (arith, inv .5, pre .1 .1 .1);
-      },
-      (inv .0 .within, (omega (arith, inv .2, pre .0, less), less)),
-    )
+    let less = c .before .before .before .before .loop-test .taken in
+    let room : PassRoom (loop .n) (loop .d) (loop .a) (loop .c) = record {
+      held = inv .0 .within .discards;
+      discards = omega (arith, inv .3, pre .1 .1 .0);
+      actions = room-whole (loop .n) (loop .a) (omega (arith, inv .4, pre .1 .1 .1 .0));
+      clears = omega (arith, inv .5, pre .1 .1 .1 .1);
+    } in
+    (pre .0, (room, (inv .0 .within, (omega (arith, inv .2, pre .1 .0, less), less))))
 
 loop-again : tie.Need-loop-again Inv-loop μ-loop
 loop-again c =
