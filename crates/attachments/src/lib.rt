@@ -96,7 +96,8 @@ fn stencil_ops(s: &[u8], pass: u32, format: u32) -> ResolvedStencil
 
 // The usage of a depth-stencil view v.
 fn usage_of(s: &[u8], v: View, depth: ResolvedDepth, stencil: ResolvedStencil) -> u32
-    ensures { λ r. ⌜ r ≡ depthStencilUsage (session (now (s .entry))) v (De.opsIn depth .readOnly) (St.opsIn stencil .readOnly) ⌝ }
+    ensures { λ r. ⌜
+        r ≡ depthStencilUsage (session (now (s .entry))) v (De.opsIn depth .readOnly) (St.opsIn stencil .readOnly) ⌝ }
 {
     depth_stencil_usage(
         depth,
@@ -134,7 +135,10 @@ fn depth_stencil_of(
     depth: ResolvedDepth,
     stencil: ResolvedStencil,
 ) -> DepthStencilPart
-    ensures { λ r. ⌜ Present (session (now (s .entry))) r (At.depthStencil k (Se.viewRange (session (now (s .entry)) .view k)) (hasDepth format) (hasStencil format) (De.opsIn depth) (St.opsIn stencil)) ⌝ }
+    ensures { λ r. ⌜
+        (let S = session (now (s .entry)) in
+        let range = Se.viewRange (S .view k) in
+        Present S r (At.depthStencil k range (hasDepth format) (hasStencil format) (De.opsIn depth) (St.opsIn stencil))) ⌝ }
 {
     let v = view(s, k);
     let plan = depth_stencil_plan(has_depth(format), has_stencil(format), depth, stencil);
@@ -180,7 +184,9 @@ fn no_depth_stencil() -> DepthStencilPart
 
 // The depth-stencil attachment of a pass, with its channels resolved.
 pub fn depth_stencil_part(s: &[u8], pass: u32) -> DepthStencilPart
-    ensures { λ r. ⌜ PartOf (session (now (s .entry))) r (At.depthStencilPart (session (now (s .entry))) (session (now (s .entry)) .pass pass)) ⌝ }
+    ensures { λ r. ⌜
+        (let S = session (now (s .entry)) in
+        PartOf S r (At.depthStencilPart S (S .pass pass))) ⌝ }
 {
     let k = depth_stencil(s, pass);
     if is_none(k) {

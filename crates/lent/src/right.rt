@@ -80,7 +80,8 @@ fn range_in(b: &[u8], i: usize) -> Range
 // The first n surfaces of a lent list.
 fn surfaces_right(s: &[u8], b: &[u8], n: usize) -> bool
     requires { ⌜ listBytes surfaceNumbers n ≤ length (now b) ⌝ }
-    ensures { λ r. ⌜ r ≡ surfacesRight (session (now (s .entry))) (surfaces n (numbersAt (now (b .entry)) countBytes (surfaceNumbers * n))) ⌝ }
+    ensures { λ r. ⌜
+        r ≡ surfacesRight (session (now (s .entry))) (surfaces n (numbersAt (now (b .entry)) countBytes (surfaceNumbers * n))) ⌝ }
 {
     let mut ok = true;
     let mut i: usize = 0;
@@ -94,7 +95,8 @@ fn surfaces_right(s: &[u8], b: &[u8], n: usize) -> bool
 // The ranges of the first n actions of a lent list.
 fn actions_right(s: &[u8], b: &[u8], n: usize) -> bool
     requires { ⌜ listBytes actionNumbers n ≤ length (now b) ⌝ }
-    ensures { λ r. ⌜ r ≡ actionsRight (session (now (s .entry))) (actions n (numbersAt (now (b .entry)) countBytes (actionNumbers * n))) ⌝ }
+    ensures { λ r. ⌜
+        r ≡ actionsRight (session (now (s .entry))) (actions n (numbersAt (now (b .entry)) countBytes (actionNumbers * n))) ⌝ }
 {
     let mut ok = true;
     let mut i: usize = 0;
@@ -155,8 +157,14 @@ pub fn lent_right(
     status: &[u8],
 ) -> bool
     requires { ⌜ n ≡ countsIn (now discards) (now actions) (now clears) ⌝ }
-    requires { ⌜ Long (now discards) (now actions) (now clears) (now status) × (surfaceCount (session (now s)) ≤ maxSurfaces) ⌝ }
-    ensures { λ r. ⌜ r ≡ right (session (now (s .entry))) n (numbersIn surfaceNumbers (now (discards .entry))) (numbersIn actionNumbers (now (actions .entry))) (numbersIn surfaceNumbers (now (clears .entry))) (now (status .entry)) ⌝ }
+    requires { ⌜
+        Long (now discards) (now actions) (now clears) (now status)
+        × (surfaceCount (session (now s)) ≤ maxSurfaces) ⌝ }
+    ensures { λ r. ⌜
+        (let d = numbersIn surfaceNumbers (now (discards .entry)) in
+        let a = numbersIn actionNumbers (now (actions .entry)) in
+        let c = numbersIn surfaceNumbers (now (clears .entry)) in
+        r ≡ right (session (now (s .entry))) n d a c (now (status .entry))) ⌝ }
 {
     if !counts_right(n) {
         return false;

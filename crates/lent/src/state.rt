@@ -43,7 +43,9 @@ pub fn judge_lent(
     status: &[u8],
 ) -> LentCounts
     requires { ⌜ (short (now discards) (now actions) (now clears) (now status) ≡ false) × (sessionRefusal (now session) ≡ 0) ⌝ }
-    ensures { λ r. ⌜ Judged (now (session .entry)) (now (discards .entry)) (now (actions .entry)) (now (clears .entry)) (now (status .entry)) r ⌝ }
+    ensures { λ r. ⌜
+        Judged (now (session .entry))
+        (now (discards .entry)) (now (actions .entry)) (now (clears .entry)) (now (status .entry)) r ⌝ }
 {
     let n = counts_of(discards, actions, clears);
     LentCounts {
@@ -64,8 +66,12 @@ pub fn pack_lent(
     c: &[u32],
 )
     requires { ⌜ (n .discards ≤ maxDiscards) × ((held + n .actions ≤ maxActions) × (n .clears ≤ maxClears)) ⌝ }
-    requires { ⌜ (discardsBytes ≤ length (now discards)) × ((actionsBytes ≤ length (now actions)) × (clearsBytes ≤ length (now clears))) ⌝ }
-    requires { ⌜ (surfaceNumbers * n .discards ≤ length (now d)) × ((actionNumbers * n .actions ≤ length (now a)) × (surfaceNumbers * n .clears ≤ length (now c))) ⌝ }
+    requires { ⌜
+        (discardsBytes ≤ length (now discards))
+        × ((actionsBytes ≤ length (now actions)) × (clearsBytes ≤ length (now clears))) ⌝ }
+    requires { ⌜
+        (surfaceNumbers * n .discards ≤ length (now d))
+        × ((actionNumbers * n .actions ≤ length (now a)) × (surfaceNumbers * n .clears ≤ length (now c))) ⌝ }
     ensures { λ _. ⌜ Packed surfaceNumbers 0 (n .discards) (now (d .entry)) (now (discards .entry)) (now (discards .exit)) ⌝ }
     ensures { λ _. ⌜ Packed actionNumbers held (n .actions) (now (a .entry)) (now (actions .entry)) (now (actions .exit)) ⌝ }
     ensures { λ _. ⌜ Packed surfaceNumbers 0 (n .clears) (now (c .entry)) (now (clears .entry)) (now (clears .exit)) ⌝ }

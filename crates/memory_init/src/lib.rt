@@ -49,7 +49,8 @@ pub fn discard(discards: &mut [u32], n: usize, s: Surface) -> usize
 // An action goes to the end of the list.
 fn push_action(actions: &mut [u32], a: usize, range: Range, kind: MemoryInitKind) -> usize
     requires { ⌜ actionNumbers * a + actionNumbers ≤ length (now actions) ⌝ }
-    ensures { λ r. ⌜ Appended actionNumbers decodeAction a (actionOf range kind ∷ []) (now (actions .entry)) (now (actions .exit)) r ⌝ }
+    ensures { λ r. ⌜
+        Appended actionNumbers decodeAction a (actionOf range kind ∷ []) (now (actions .entry)) (now (actions .exit)) r ⌝ }
 {
     put_action(actions, a, range, kind);
     a + 1
@@ -58,7 +59,9 @@ fn push_action(actions: &mut [u32], a: usize, range: Range, kind: MemoryInitKind
 // The discards outside the range stay, in order (Vec::retain).
 pub fn retain_others(discards: &mut [u32], n: usize, range: Range) -> usize
     requires { ⌜ surfaceNumbers * n ≤ length (now discards) ⌝ }
-    ensures { λ r. ⌜ Retained surfaceNumbers decodeSurface (λ s. not (Surfaces.hits range s)) n (now (discards .entry)) (now (discards .exit)) r ⌝ }
+    ensures { λ r. ⌜
+        Retained surfaceNumbers decodeSurface (λ s. not (Surfaces.hits range s)) n
+        (now (discards .entry)) (now (discards .exit)) r ⌝ }
 {
     let mut kept: usize = 0;
     let mut i: usize = 0;
@@ -75,8 +78,12 @@ pub fn retain_others(discards: &mut [u32], n: usize, range: Range) -> usize
 
 // The discards in the range go to the end of the clears.
 fn return_clears(discards: &[u32], n: usize, range: Range, clears: &mut [u32], c: usize) -> usize
-    requires { ⌜ (surfaceNumbers * n ≤ length (now discards)) × (surfaceNumbers * (c + length (matching range (surfaces n (now discards)))) ≤ length (now clears)) ⌝ }
-    ensures { λ r. ⌜ Appended surfaceNumbers decodeSurface c (matching range (surfaces n (now (discards .entry)))) (now (clears .entry)) (now (clears .exit)) r ⌝ }
+    requires { ⌜
+        (surfaceNumbers * n ≤ length (now discards))
+        × (surfaceNumbers * (c + length (matching range (surfaces n (now discards)))) ≤ length (now clears)) ⌝ }
+    ensures { λ r. ⌜
+        Appended surfaceNumbers decodeSurface c (matching range (surfaces n (now (discards .entry))))
+        (now (clears .entry)) (now (clears .exit)) r ⌝ }
 {
     let mut y = c;
     let mut i: usize = 0;
@@ -99,8 +106,12 @@ fn push_implicit_actions(
     actions: &mut [u32],
     a: usize,
 ) -> usize
-    requires { ⌜ (surfaceNumbers * n ≤ length (now discards)) × (actionNumbers * (a + length (matching range (surfaces n (now discards)))) ≤ length (now actions)) ⌝ }
-    ensures { λ r. ⌜ Appended actionNumbers decodeAction a (map implicitAt (matching range (surfaces n (now (discards .entry))))) (now (actions .entry)) (now (actions .exit)) r ⌝ }
+    requires { ⌜
+        (surfaceNumbers * n ≤ length (now discards))
+        × (actionNumbers * (a + length (matching range (surfaces n (now discards)))) ≤ length (now actions)) ⌝ }
+    ensures { λ r. ⌜
+        Appended actionNumbers decodeAction a (map implicitAt (matching range (surfaces n (now (discards .entry)))))
+        (now (actions .entry)) (now (actions .exit)) r ⌝ }
 {
     let mut y = a;
     let mut i: usize = 0;
@@ -127,8 +138,15 @@ fn register_implicit_init(
     n: Counts,
     range: Range,
 ) -> Counts
-    requires { ⌜ (surfaceNumbers * n .discards ≤ length (now discards)) × (actionNumbers * n .actions + actionNumbers ≤ length (now actions)) ⌝ }
-    ensures { λ r. ⌜ ((c : List ℕ) → Leaves (registerInitAction range ImplicitlyInitialized (held n (now (discards .entry)) (now (actions .entry)) c)) n r (now (discards .entry)) (now (discards .exit)) (now (actions .entry)) (now (actions .exit)) c c) ⌝ }
+    requires { ⌜
+        (surfaceNumbers * n .discards ≤ length (now discards))
+        × (actionNumbers * n .actions + actionNumbers ≤ length (now actions)) ⌝ }
+    ensures { λ r. ⌜
+        ((c : List ℕ) → (let before = held n (now (discards .entry)) (now (actions .entry)) c in
+        Leaves (registerInitAction range ImplicitlyInitialized before) n r
+        (now (discards .entry)) (now (discards .exit))
+        (now (actions .entry)) (now (actions .exit))
+        c c)) ⌝ }
 {
     let first = push_action(
         actions,
@@ -152,8 +170,15 @@ fn register_needing_init(
     n: Counts,
     range: Range,
 ) -> Counts
-    requires { ⌜ Room (registerInitAction range NeedsInitializedMemory (held n (now discards) (now actions) (now clears))) n (now discards) (now actions) (now clears) ⌝ }
-    ensures { λ r. ⌜ Leaves (registerInitAction range NeedsInitializedMemory (held n (now (discards .entry)) (now (actions .entry)) (now (clears .entry)))) n r (now (discards .entry)) (now (discards .exit)) (now (actions .entry)) (now (actions .exit)) (now (clears .entry)) (now (clears .exit)) ⌝ }
+    requires { ⌜
+        (let before = held n (now discards) (now actions) (now clears) in
+        Room (registerInitAction range NeedsInitializedMemory before) n (now discards) (now actions) (now clears)) ⌝ }
+    ensures { λ r. ⌜
+        (let before = held n (now (discards .entry)) (now (actions .entry)) (now (clears .entry)) in
+        Leaves (registerInitAction range NeedsInitializedMemory before) n r
+        (now (discards .entry)) (now (discards .exit))
+        (now (actions .entry)) (now (actions .exit))
+        (now (clears .entry)) (now (clears .exit))) ⌝ }
 {
     let held = n.discards;
     let first = push_action(
@@ -181,8 +206,15 @@ fn register_init_action(
     range: Range,
     kind: MemoryInitKind,
 ) -> Counts
-    requires { ⌜ Room (registerInitAction range kind (held n (now discards) (now actions) (now clears))) n (now discards) (now actions) (now clears) ⌝ }
-    ensures { λ r. ⌜ Leaves (registerInitAction range kind (held n (now (discards .entry)) (now (actions .entry)) (now (clears .entry)))) n r (now (discards .entry)) (now (discards .exit)) (now (actions .entry)) (now (actions .exit)) (now (clears .entry)) (now (clears .exit)) ⌝ }
+    requires { ⌜
+        (let before = held n (now discards) (now actions) (now clears) in
+        Room (registerInitAction range kind before) n (now discards) (now actions) (now clears)) ⌝ }
+    ensures { λ r. ⌜
+        (let before = held n (now (discards .entry)) (now (actions .entry)) (now (clears .entry)) in
+        Leaves (registerInitAction range kind before) n r
+        (now (discards .entry)) (now (discards .exit))
+        (now (actions .entry)) (now (actions .exit))
+        (now (clears .entry)) (now (clears .exit))) ⌝ }
 {
     match kind {
         MemoryInitKind::ImplicitlyInitialized => register_implicit_init(
@@ -210,8 +242,15 @@ fn register(
     range: Range,
     kind: InitKind,
 ) -> Counts
-    requires { ⌜ Room (registered range (initKind kind) (held n (now discards) (now actions) (now clears))) n (now discards) (now actions) (now clears) ⌝ }
-    ensures { λ r. ⌜ Leaves (registered range (initKind kind) (held n (now (discards .entry)) (now (actions .entry)) (now (clears .entry)))) n r (now (discards .entry)) (now (discards .exit)) (now (actions .entry)) (now (actions .exit)) (now (clears .entry)) (now (clears .exit)) ⌝ }
+    requires { ⌜
+        (let before = held n (now discards) (now actions) (now clears) in
+        Room (registered range (initKind kind) before) n (now discards) (now actions) (now clears)) ⌝ }
+    ensures { λ r. ⌜
+        (let before = held n (now (discards .entry)) (now (actions .entry)) (now (clears .entry)) in
+        Leaves (registered range (initKind kind) before) n r
+        (now (discards .entry)) (now (discards .exit))
+        (now (actions .entry)) (now (actions .exit))
+        (now (clears .entry)) (now (clears .exit))) ⌝ }
 {
     let InitKind::Some(k) = kind else {
         return n;
@@ -229,8 +268,15 @@ pub fn add_pass_texture_init_actions(
     kind: InitKind,
     discarding: bool,
 ) -> Counts
-    requires { ⌜ Room (applyPlan range (initKind kind) discarding (held n (now discards) (now actions) (now clears))) n (now discards) (now actions) (now clears) ⌝ }
-    ensures { λ r. ⌜ Leaves (applyPlan range (initKind kind) discarding (held n (now (discards .entry)) (now (actions .entry)) (now (clears .entry)))) n r (now (discards .entry)) (now (discards .exit)) (now (actions .entry)) (now (actions .exit)) (now (clears .entry)) (now (clears .exit)) ⌝ }
+    requires { ⌜
+        (let before = held n (now discards) (now actions) (now clears) in
+        Room (applyPlan range (initKind kind) discarding before) n (now discards) (now actions) (now clears)) ⌝ }
+    ensures { λ r. ⌜
+        (let before = held n (now (discards .entry)) (now (actions .entry)) (now (clears .entry)) in
+        Leaves (applyPlan range (initKind kind) discarding before) n r
+        (now (discards .entry)) (now (discards .exit))
+        (now (actions .entry)) (now (actions .exit))
+        (now (clears .entry)) (now (clears .exit))) ⌝ }
 {
     let m = register(discards, actions, clears, n, range, kind);
     if !discarding {

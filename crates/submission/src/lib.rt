@@ -105,7 +105,9 @@ fn act_rows(
     n: usize,
     kind: MemoryInitKind,
 )
-    requires { ⌜ (stride ≤ maxSurfaces) × ((m : ℕ) → m < n → (first + m * stride ≤ maxSurfaces) × (first + m * stride + count ≤ length (now status))) ⌝ }
+    requires { ⌜
+        (stride ≤ maxSurfaces)
+        × ((m : ℕ) → m < n → (first + m * stride ≤ maxSurfaces) × (first + m * stride + count ≤ length (now status))) ⌝ }
     ensures { λ _. ⌜ now (status .exit) ≡ rows (Status.actByte kind) first stride count n (now (status .entry)) ⌝ }
 {
     let mut at = first;
@@ -119,8 +121,12 @@ fn act_rows(
 
 // The number of surfaces before each texture goes to its place in `bases`; the answer is that of all surfaces.
 fn texture_bases(s: &[u8], bases: &mut [usize]) -> usize
-    requires { ⌜ (session (now s) .textureCount ≤ length (now bases)) × (surfaceCount (session (now s)) ≤ maxSurfaces) ⌝ }
-    ensures { λ r. ⌜ (r ≡ surfaceCount (session (now (s .entry)))) × Bases (session (now (s .entry))) (now (bases .exit)) ⌝ }
+    requires { ⌜
+        (session (now s) .textureCount ≤ length (now bases))
+        × (surfaceCount (session (now s)) ≤ maxSurfaces) ⌝ }
+    ensures { λ r. ⌜
+        (r ≡ surfaceCount (session (now (s .entry))))
+        × Bases (session (now (s .entry))) (now (bases .exit)) ⌝ }
 {
     let n = texture_count(s);
     let mut sum: usize = 0;
@@ -136,7 +142,9 @@ fn texture_bases(s: &[u8], bases: &mut [usize]) -> usize
 
 // A surface's place among the status bytes: by texture, mip, layer.
 fn surface_index(s: &[u8], bases: &[usize], x: Surface) -> usize
-    requires { ⌜ Bases (session (now s)) (now bases) × (Inside (session (now s)) x × (surfaceCount (session (now s)) ≤ maxSurfaces)) ⌝ }
+    requires { ⌜
+        (let S = session (now s) in
+        Bases S (now bases) × (Inside S x × (surfaceCount S ≤ maxSurfaces))) ⌝ }
     ensures { λ r. ⌜ r ≡ surfaceIndex (session (now (s .entry))) x ⌝ }
 {
     let at = wide(x.texture);
@@ -146,8 +154,14 @@ fn surface_index(s: &[u8], bases: &[usize], x: Surface) -> usize
 
 // An action: every surface of its range, mip by mip.
 fn act(s: &[u8], bases: &[usize], status: &mut [u8], range: Range, kind: MemoryInitKind)
-    requires { ⌜ Bases (session (now s)) (now bases) × (RangeInside (session (now s)) range × ((surfaceCount (session (now s)) ≤ maxSurfaces) × (surfaceCount (session (now s)) ≤ length (now status)))) ⌝ }
-    ensures { λ _. ⌜ now (status .exit) ≡ sweep (actAt (actionOf range kind)) (surfacesOf (session (now (s .entry)))) (now (status .entry)) ⌝ }
+    requires { ⌜
+        (let S = session (now s) in
+        Bases S (now bases)
+        × (RangeInside S range
+        × ((surfaceCount S ≤ maxSurfaces) × (surfaceCount S ≤ length (now status))))) ⌝ }
+    ensures { λ _. ⌜
+        (let S = session (now (s .entry)) in
+        now (status .exit) ≡ sweep (actAt (actionOf range kind)) (surfacesOf S) (now (status .entry))) ⌝ }
 {
     let first = surface_index(s, bases, first_of(range));
     let layers = wide(array_layers(texture(s, range.texture)));
@@ -163,8 +177,15 @@ fn act(s: &[u8], bases: &[usize], status: &mut [u8], range: Range, kind: MemoryI
 
 // The first n actions, in order.
 fn run_actions(s: &[u8], bases: &[usize], status: &mut [u8], l: &[u32], n: usize)
-    requires { ⌜ Bases (session (now s)) (now bases) × ((actionsRight (session (now s)) (Lent.actions n (now l)) ≡ true) × ((actionNumbers * n ≤ length (now l)) × ((surfaceCount (session (now s)) ≤ maxSurfaces) × (surfaceCount (session (now s)) ≤ length (now status))))) ⌝ }
-    ensures { λ _. ⌜ now (status .exit) ≡ sweepActs (Lent.actions n (now (l .entry))) (surfacesOf (session (now (s .entry)))) (now (status .entry)) ⌝ }
+    requires { ⌜
+        (let S = session (now s) in
+        Bases S (now bases)
+        × ((actionsRight S (Lent.actions n (now l)) ≡ true)
+        × ((actionNumbers * n ≤ length (now l))
+        × ((surfaceCount S ≤ maxSurfaces) × (surfaceCount S ≤ length (now status)))))) ⌝ }
+    ensures { λ _. ⌜
+        (let S = session (now (s .entry)) in
+        now (status .exit) ≡ sweepActs (Lent.actions n (now (l .entry))) (surfacesOf S) (now (status .entry))) ⌝ }
 {
     let mut i: usize = 0;
     while i < n {
@@ -175,8 +196,15 @@ fn run_actions(s: &[u8], bases: &[usize], status: &mut [u8], l: &[u32], n: usize
 
 // The first n discards mark empty.
 fn run_discards(s: &[u8], bases: &[usize], status: &mut [u8], l: &[u32], n: usize)
-    requires { ⌜ Bases (session (now s)) (now bases) × ((surfacesRight (session (now s)) (surfaces n (now l)) ≡ true) × ((surfaceNumbers * n ≤ length (now l)) × ((surfaceCount (session (now s)) ≤ maxSurfaces) × (surfaceCount (session (now s)) ≤ length (now status))))) ⌝ }
-    ensures { λ _. ⌜ now (status .exit) ≡ sweep (emptyAt (surfaces n (now (l .entry)))) (surfacesOf (session (now (s .entry)))) (now (status .entry)) ⌝ }
+    requires { ⌜
+        (let S = session (now s) in
+        Bases S (now bases)
+        × ((surfacesRight S (surfaces n (now l)) ≡ true)
+        × ((surfaceNumbers * n ≤ length (now l))
+        × ((surfaceCount S ≤ maxSurfaces) × (surfaceCount S ≤ length (now status)))))) ⌝ }
+    ensures { λ _. ⌜
+        (let S = session (now (s .entry)) in
+        now (status .exit) ≡ sweep (emptyAt (surfaces n (now (l .entry)))) (surfacesOf S) (now (status .entry))) ⌝ }
 {
     let mut i: usize = 0;
     while i < n {
@@ -189,7 +217,11 @@ fn run_discards(s: &[u8], bases: &[usize], status: &mut [u8], l: &[u32], n: usiz
 // A submission. Both lists are then empty and the clears stay; bytes past the last surface are neither read nor written.
 pub fn submit(s: &[u8], discards: &[u32], actions: &[u32], n: Counts, status: &mut [u8]) -> Counts
     requires { ⌜ Submits (session (now s)) n (now discards) (now actions) (now status) ⌝ }
-    ensures { λ r. ⌜ (now (status .exit) ≡ submitBytes (Lent.actions (n .actions) (now (actions .entry))) (Lent.surfaces (n .discards) (now (discards .entry))) (surfacesOf (session (now (s .entry)))) (now (status .entry))) × (r ≡ record { discards = 0; actions = 0; clears = n .clears }) ⌝ }
+    ensures { λ r. ⌜
+        (let d = Lent.surfaces (n .discards) (now (discards .entry)) in
+        let a = Lent.actions (n .actions) (now (actions .entry)) in
+        (now (status .exit) ≡ submitBytes a d (surfacesOf (session (now (s .entry)))) (now (status .entry)))
+        × (r ≡ record { discards = 0; actions = 0; clears = n .clears })) ⌝ }
 {
     let mut bases: [usize; MAX_TEXTURES as usize] = [0; MAX_TEXTURES as usize];
     let count = texture_bases(s, &mut bases);
