@@ -52,7 +52,7 @@ pub fn begin(discards: &[u32], n: Counts, copy: &mut [u32]) -> Course
 
 // A count of actions after so many more; past the most that there may be it need not grow.
 fn count(actions: usize, added: usize) -> usize
-    requires { ⌜ added ≤ 65 ⌝ }
+    requires { ⌜ added ≤ maxDiscards + 1 ⌝ }
     ensures { λ r. ⌜ ((n : ℕ) → Counted actions n → Counted r (n + added)) ⌝ }
 {
     if MAX_ACTIONS < actions {

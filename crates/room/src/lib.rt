@@ -85,7 +85,7 @@ fn follow_slots(s: &[u8], pass: u32, n: u32, copy: &mut [u32], course: Course) -
     after
 }
 
-// 49 if a step needs a 65th discard, then 50 if the end needs a 513th action. d is the pass's depth-stencil part.
+// 49 if a step has no room for its discard, then 50 if the end has none for all actions. d is the pass's depth-stencil part.
 pub fn room_verdict(
     s: &[u8],
     pass: u32,

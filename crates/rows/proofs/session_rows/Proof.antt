@@ -1,4 +1,4 @@
--- A readable session has at most 100 passes, so that the rows fit.
+-- A readable session has no more passes than there may be, so that the rows fit; and its views can be read.
 use mathlib.Core.Path.{_≡_, subst}
 use native.Mathlib.Omega.{arith}
 use Prim.Native.Nat.{ℕ, _*_}
