@@ -2,4 +2,3 @@ pub mod Kind
 pub mod Asked
 pub mod Resolve
 pub mod Bits
-pub mod Corners

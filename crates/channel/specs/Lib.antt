@@ -3,4 +3,3 @@ pub mod Kind
 pub mod Pass
 pub mod Asked
 pub mod Color
-pub mod Corners

@@ -1,5 +1,5 @@
 // What the channels of a pass share: load and store operations without the value of a Clear, the operations of a colour
-// attachment, and in `pass` a channel as a pass gives it. In specs/ and proofs/: a channel of any value, and the corners 14 to 26.
+// attachment, and in `pass` a channel as a pass gives it. In specs/ and proofs/: a channel of any value.
 // Every function is total; its contract is an equation with the definition, at the type of one value where there is none.
 pub mod color;
 pub mod pass;
