@@ -4,13 +4,12 @@ use mathlib.Core.Bool.{Bool, true, false, not, _&&_, _||_, cond}
 use mathlib.Core.List.{List, [], _∷_, _++_, map}
 use mathlib.Core.Option.{none, some}
 use Prim.Native.Nat.{ℕ, zero, suc, _≤_}
-use native.Mathlib.Omega.{arith}
 use lib.Dec.{leb, ltb}
 use borrow.Author.Tests.{leb-true}
-use Rattle.definition.specs.Sizes.{maxSlots, maxSurfaces}
+use Rattle.definition.specs.Sizes.{maxSlots}
 use Rattle.definition.specs.Formats.{isColor}
 use Rattle.definition.specs.Surfaces.{elem, meets}
-use Rattle.definition.specs.Session.{Pass, Session, isNone, strict, surfaceCount, formatOf, viewRange, transient}
+use Rattle.definition.specs.Session.{Pass, Session, isNone, strict, formatOf, viewRange, transient}
 use Rattle.definition.specs.Verdict.{resolveAt, atDepthStencil, nowhere, fine, isFine, refusedAt, _then_, unless}
 use Rattle.definition.specs.Readable.{viewsRight, channelReads, depthStencilReads, resolveReads, slotReads, slotsRead, passReads}
 use Rattle.definition.specs.Channel.{ignores, keepOf, transientOps}
@@ -29,7 +28,6 @@ use Rattle.laws.proofs.Surfaces.{hits-in, elem-append}
 use Rattle.laws.proofs.Overlap.{apart-elem}
 use Rattle.laws.proofs.Verdicts.{then-left, then-right, unless-on}
 use Rattle.laws.proofs.Folds.{next-fine, next-refused}
-use Rattle.laws.proofs.Places.{surfaces-counted}
 use Rattle.noninterference.specs.Memory.{useOf}
 use Rattle.noninterference.proofs.Plans.{plannedUse}
 use Rattle.laws.specs.Surfaces.{RangeInside}
@@ -296,7 +294,6 @@ accepted-okay S vs p h =
 
 -- Readable, strict, every view of one layer, no 3D texture.
 pub record Conditions (S : Session) : Type 0 where
-  pub room : surfaceCount S ≤ maxSurfaces
   pub views : viewsRight S ≡ true
   pub strict : strict S ≡ true
   pub single : Single S
@@ -304,7 +301,6 @@ pub record Conditions (S : Session) : Type 0 where
 
 pub conditions-fit : (S : Session) → Conditions S → Fit S
 conditions-fit S c = record {
-  room = omega (arith, c .room, surfaces-counted S);
   sound = λ p h. accepted-okay S (c .views) p h .sound (c .strict) (c .single);
   distinct = λ p h. accepted-okay S (c .views) p h .distinct (c .flat);
   tells = λ p h n q cl. ap (λ u. record { number = n; uses = u; clears = cl }) (accepted-okay S (c .views) p h .told);

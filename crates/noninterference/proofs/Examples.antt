@@ -12,7 +12,7 @@ use Rattle.definition.specs.Surfaces.{surfaceAt}
 use Rattle.definition.specs.Session.{session}
 use Rattle.definition.specs.Readable.{sessionRefusal}
 use Rattle.definition.specs.Status.{filled}
-use Rattle.definition.specs.Calls.{Call, pass, submit}
+use Rattle.definition.specs.Calls.{fresh, Call, pass, submit}
 use Rattle.definition.specs.Computing.{computing}
 use Rattle.definition.specs.Files.{texture, view, channel, sliceSlot, slot, colors, depthStencil, file}
 use Rattle.definition.specs.declared.Surface.{Surface}
@@ -20,7 +20,7 @@ use Rattle.laws.specs.Surfaces.{Inside}
 use Rattle.laws.proofs.Tests.{clash}
 use Rattle.noninterference.specs.Memory.{colorAspect, stencilAspect, Drawing, Contents}
 use Rattle.noninterference.specs.Claim.{byteAt, submittedPasses, lastUse, kept, loadedBy, memoryAfter, Claim}
-use Rattle.noninterference.proofs.Theorem.{demand-three}
+use Rattle.noninterference.proofs.Theorem.{demand-three, fresh-starts}
 
 -- ── inside the theorem
 
@@ -57,7 +57,7 @@ abbrev contents : Contents ℕ
 contents = record { first = λ s a. 5; left = λ n s a. 7 }
 
 abbrev run : List Call → List (List ℕ)
-run calls = loadedBy drawing contents (session strictFile) calls
+run calls = loadedBy drawing contents (session strictFile) fresh calls
 
 -- The first load shows zero; so does one after a discard, in the same buffer or in the next; a load after a store shows what was drawn, and a
 -- divergent aspect is zero.
@@ -77,10 +77,10 @@ unfolding computing
 computed = refl
 
 -- What is left: what was there before any submission, what a discard left, what was drawn, and the zero of the divergent aspect.
-pub remains : (memoryAfter drawing contents (session strictFile) (pass 0 ∷ []) (surfaceAt 0 0 0) colorAspect
-    ∷ memoryAfter drawing contents (session strictFile) (pass 0 ∷ submit ∷ []) (surfaceAt 0 0 0) colorAspect
-    ∷ memoryAfter drawing contents (session strictFile) (pass 2 ∷ submit ∷ []) (surfaceAt 0 0 0) colorAspect
-    ∷ memoryAfter drawing contents (session strictFile) (pass 3 ∷ submit ∷ []) (surfaceAt 1 0 0) stencilAspect
+pub remains : (memoryAfter drawing contents (session strictFile) fresh (pass 0 ∷ []) (surfaceAt 0 0 0) colorAspect
+    ∷ memoryAfter drawing contents (session strictFile) fresh (pass 0 ∷ submit ∷ []) (surfaceAt 0 0 0) colorAspect
+    ∷ memoryAfter drawing contents (session strictFile) fresh (pass 2 ∷ submit ∷ []) (surfaceAt 0 0 0) colorAspect
+    ∷ memoryAfter drawing contents (session strictFile) fresh (pass 3 ∷ submit ∷ []) (surfaceAt 1 0 0) stencilAspect
     ∷ [])
     ≡ (5 ∷ 7 ∷ 100 ∷ 0 ∷ [])
 unfolding computing
@@ -99,9 +99,9 @@ not-opposite false h = clash {b = false} h refl
 
 -- After the first n calls the surface x is marked otherwise than the last pass kept it.
 marked-wrong : (s : List ℕ) (calls : List Call) (n : ℕ) (x : Surface) (b : Bool) → sessionRefusal s ≡ 0 → Inside (session s) x
-    → filled (byteAt (session s) (take n calls) x) ≡ b → kept (lastUse none (submittedPasses (session s) (take n calls)) x) ≡ not b → Fails s
+    → filled (byteAt (session s) fresh (take n calls) x) ≡ b → kept (lastUse none (submittedPasses (session s) fresh (take n calls)) x) ≡ not b → Fails s
 marked-wrong s calls n x b ok inside marked left =
-    record { readable = ok; fails = λ claim. not-opposite b (sym marked ∙ claim ℕ drawing contents contents calls .marks n x inside ∙ left) }
+    record { readable = ok; fails = λ claim. not-opposite b (sym marked ∙ claim ℕ drawing contents contents fresh (fresh-starts s ok) calls .marks n x inside ∙ left) }
 
 -- Not strict: depth Clear and stencil DontCare, both stored, registers nothing, so the surface is not marked filled.
 abbrev looseFile : List ℕ

@@ -12,12 +12,12 @@ use Rattle.definition.specs.Verdict.{nowhere, isFine, refusedAt}
 use Rattle.definition.specs.Check.{check}
 use Rattle.definition.specs.Attachments.{Attached, attachments}
 use Rattle.definition.specs.Pass.{newPass, passVerdict, refusal, roomVerdict, acceptedPass, refusedPass, outcome, checkPass}
-use Rattle.definition.specs.Calls.{State, fresh, Call, pass, submit, Step, Answer, checked, submitted, lentRight, passCall, passStep, submitStep, submitState, called, notLent, call, answers, after}
+use Rattle.definition.specs.Calls.{State, Call, pass, submit, Step, Answer, checked, submitted, lentRight, passCall, passStep, submitStep, submitState, called, notLent, call, answers, after}
 use Rattle.definition.specs.declared.Surface.{Surface}
 use Rattle.laws.specs.Surfaces.{Inside}
 use Rattle.laws.proofs.Verdicts.{then-left}
 use Rattle.noninterference.specs.Memory.{Told, Event, refused, accepted, event, events, Cells, Drawing, Contents, byteOf, loaded, cells}
-use Rattle.noninterference.specs.Claim.{Agree, submittedFrom, lastUse, kept, Claim}
+use Rattle.noninterference.specs.Claim.{Fresh, Agree, submittedFrom, lastUse, kept, Claim}
 use Rattle.noninterference.proofs.Passes.{All, Distinct}
 use Rattle.noninterference.proofs.Sound.{Sound, Fit}
 use Rattle.noninterference.proofs.Invariant.{passState, Inv, start, now, pass-inv, submit-shown, submit-inv}
@@ -103,16 +103,16 @@ module _ {Val : Type 0} (D : Drawing Val) (left left′ : ℕ → Cells Val) (S 
   all-calls fit (c ∷ cs) n σ hs ws m m′ inv = after-call fit cs n (all-calls fit cs (n + 1)) σ hs ws m m′ inv c
 
 -- From a fresh state, for any list of calls; and for each list of first calls.
-from-fresh : {Val : Type 0} (D : Drawing Val) (c c′ : Contents Val) (S : Session) → Fit S → (calls : List Call)
-    → Going D (c .left) (c′ .left) S (events S 0 (answers S calls fresh)) (after S calls fresh) [] [] (c .first) (c′ .first)
-from-fresh D c c′ S fit calls =
-    all-calls D (c .left) (c′ .left) S fit calls 0 fresh [] [] (c .first) (c′ .first) (start D (c .left) (c′ .left) S (fit .room) (c .first) (c′ .first))
+from-fresh : {Val : Type 0} (D : Drawing Val) (c c′ : Contents Val) (S : Session) → Fit S → (σ : State) → Fresh S σ → (calls : List Call)
+    → Going D (c .left) (c′ .left) S (events S 0 (answers S calls σ)) (after S calls σ) [] [] (c .first) (c′ .first)
+from-fresh D c c′ S fit σ h calls =
+    all-calls D (c .left) (c′ .left) S fit calls 0 σ [] [] (c .first) (c′ .first) (start D (c .left) (c′ .left) S σ h (c .first) (c′ .first))
 
 pub fit-claim : (S : Session) → Fit S → Claim S
-fit-claim S fit Val D c c′ calls = record {
-  loads = from-fresh D c c′ S fit calls .loads;
-  marks = λ n. from-fresh D c c′ S fit (take n calls) .marks;
-  equal = λ n. from-fresh D c c′ S fit (take n calls) .equal;
+fit-claim S fit Val D c c′ σ h calls = record {
+  loads = from-fresh D c c′ S fit σ h calls .loads;
+  marks = λ n. from-fresh D c c′ S fit σ h (take n calls) .marks;
+  equal = λ n. from-fresh D c c′ S fit σ h (take n calls) .equal;
 }
 
 -- What the first calls answer is the first of what all answer.

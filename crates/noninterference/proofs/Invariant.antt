@@ -4,17 +4,17 @@ use mathlib.Core.Path.{_≡_, refl, sym, ap, ap₂, subst, _∙_}
 use mathlib.Core.Bool.{Bool, true, false, not, _&&_, _||_, cond}
 use mathlib.Core.List.{List, [], _∷_, _++_, map}
 use mathlib.Core.Option.{Option, none, some}
-use Prim.Native.Nat.{ℕ, zero, suc, _≤_}
+use Prim.Native.Nat.{ℕ, _≤_}
 use native.Mathlib.Omega.{arith}
-use lib.ListN.{length, getD, replicate, length-replicate}
-use Rattle.definition.specs.Sizes.{maxSurfaces}
+use lib.ListN.{length}
 use Rattle.definition.specs.Surfaces.{elem}
-use Rattle.definition.specs.Session.{Session, surfaceIndex, surfacesOf}
+use Rattle.definition.specs.Session.{Session, surfacesOf}
 use Rattle.definition.specs.Status.{filled, cleared, restart, actByte, emptyByte}
 use Rattle.definition.specs.Attachments.{Attached, kindOf, discards, attachAll}
 use Rattle.definition.specs.Pass.{newPass}
 use Rattle.definition.specs.Submission.{byteAfter}
-use Rattle.definition.specs.Calls.{State, fresh, submitState}
+use Rattle.definition.specs.MemoryInit.{Lists}
+use Rattle.definition.specs.Calls.{State, noEntries, submitState}
 use Rattle.definition.specs.declared.Surface.{Surface}
 use Rattle.definition.specs.declared.MemoryInitKind.{MemoryInitKind}
 use Rattle.definition.specs.declared.MemoryInitKind.the-variants.{ImplicitlyInitialized, NeedsInitializedMemory}
@@ -23,12 +23,13 @@ use Rattle.laws.proofs.Tests.{clash, and-left, and-right, and-on, or-on-left, o
 use Rattle.laws.proofs.Status.{filled-fresh, filled-restart, filled-act, filled-empty, cleared-act, cleared-empty, needing-clears}
 use Rattle.laws.proofs.Submission.{submit-length, submitted-byte}
 use Rattle.noninterference.specs.Memory.{Use, Told, Cells, Drawing, byteOf, zeroed, before, sees, cellAfter, run, runs, shown, started}
-use Rattle.noninterference.specs.Claim.{Agree, allDiscarded, later, lastUse, kept}
+use Rattle.noninterference.specs.Claim.{Fresh, Agree, allDiscarded, later, lastUse, kept}
 use Rattle.noninterference.proofs.Spots.{Spot, spot, planSpot, kindByte, isNone, needs}
 use Rattle.noninterference.proofs.Plans.{plannedUse, partsOf, anyLoad, proper, plan-loads, plan-keeps, plan-discards, plan-settled}
 use Rattle.laws.specs.Room.{reaches}
 use Rattle.noninterference.proofs.Passes.{find, All, Distinct, viaUse, viaFind, use-found, pass-spot, all-found, found-all}
 use Rattle.noninterference.proofs.Sound.{Sound, all-names, all-spreads}
+use Rattle.noninterference.proofs.Fresh.{fresh-byte, fresh-long}
 use Rattle.noninterference.proofs.Cells.{values-eq, settled-cell, runs-snoc, shown-snoc, last-append}
 
 -- ── one attachment, at its surface
@@ -92,11 +93,6 @@ passState xs σ = record { lists = attachAll xs (newPass (σ .lists)); status = 
 abbrev pub spotAt : Session → State → Surface → Spot
 spotAt S σ s = spot s (restart (byteOf S (σ .status) s)) (σ .lists)
 
-fresh-byte : (n i : ℕ) → _≡_ {A = ℕ} (getD (replicate n 0) i 0) 0
-fresh-byte zero i = refl
-fresh-byte (suc n) zero = refl
-fresh-byte (suc n) (suc i) = fresh-byte n i
-
 module _ {Val : Type 0} (D : Drawing Val) (left left′ : ℕ → Cells Val) (S : Session) where
   -- ── the invariant
 
@@ -124,18 +120,22 @@ module _ {Val : Type 0} (D : Drawing Val) (left left′ : ℕ → Cells Val) (S 
 
   -- ── the start
 
-  pub start : length (surfacesOf S) ≤ maxSurfaces → (m m′ : Cells Val) → Inv fresh [] [] m m′
+  -- No entries, and no surface is filled.
+  empty-inv : (bytes : List ℕ) → length (surfacesOf S) ≤ length bytes → ((s : Surface) → Inside S s → filled (byteOf S bytes s) ≡ false)
+      → (m m′ : Cells Val) → Inv (record { lists = noEntries; status = bytes }) [] [] m m′
   unfolding spot
-  start room m m′ = record {
-    room = omega (arith, room, length-replicate {A = ℕ} maxSurfaces 0);
-    past = λ s ok. empty s;
-    agree = λ s ok e. clash e (empty s);
-    next = λ s ok. filled-restart (byteOf S (fresh .status) s) ∙ empty s;
-    hold = λ z n n′ covers ag. (refl, λ s ok c. ag s ok (ap (λ b. b || z s) (sym (filled-restart (byteOf S (fresh .status) s))) ∙ and-left _ _ c));
+  empty-inv bytes long empty m m′ = record {
+    room = long;
+    past = empty;
+    agree = λ s ok e. clash e (empty s ok);
+    next = λ s ok. filled-restart (byteOf S bytes s) ∙ empty s ok;
+    hold = λ z n n′ covers ag. (refl, λ s ok c. ag s ok (ap (λ b. b || z s) (sym (filled-restart (byteOf S bytes s))) ∙ and-left _ _ c));
   }
-    where
-      empty : (s : Surface) → filled (byteOf S (fresh .status) s) ≡ false
-      empty s = ap filled (fresh-byte maxSurfaces (surfaceIndex S s)) ∙ filled-fresh
+
+  pub start : (σ : State) → Fresh S σ → (m m′ : Cells Val) → Inv σ [] [] m m′
+  start σ h m m′ =
+      subst (λ (l : Lists). Inv (record { lists = l; status = σ .status }) [] [] m m′) (sym (h .lists))
+      (empty-inv (σ .status) (fresh-long S σ h) (λ s ok. ap filled (fresh-byte S σ h s ok) ∙ filled-fresh) m m′)
 
   -- ── an accepted pass
 

@@ -8,8 +8,8 @@ use native.Mathlib.Omega.{arith}
 use lib.Dec.{ltb}
 use lib.ListN.{length}
 use borrow.Author.Tests.{leb-true, le-leb, lt-ltb}
-use Rattle.definition.specs.Sizes.{maxSurfaces, maxDiscards, maxActions, maxClears}
-use Rattle.definition.specs.Session.{Pass, Session, surfaceCount, surfacesOf}
+use Rattle.definition.specs.Sizes.{maxDiscards, maxActions, maxClears}
+use Rattle.definition.specs.Session.{Pass, Session, surfacesOf}
 use Rattle.definition.specs.Verdict.{nowhere, isFine, refusedAt, unless}
 use Rattle.definition.specs.Readable.{viewsRight}
 use Rattle.definition.specs.Surfaces.{hits, firstOf, named}
@@ -18,7 +18,7 @@ use Rattle.definition.specs.Check.{check}
 use Rattle.definition.specs.Attachments.{Attached, rangeIn, kindOf, discards, attach, attachAll, attachments}
 use Rattle.definition.specs.Pass.{discardsFit, actionsFit, roomVerdict, newPass, passVerdict, acceptedPass, refusedPass, outcome, checkPass}
 use Rattle.definition.specs.Submission.{submitLists}
-use Rattle.definition.specs.Calls.{State, fresh, Call, pass, submit, surfaceRight, rangeRight, surfacesRight, actionsRight, bytesRight, countsRight, lentRight, passCall, passStep, submitState, called, call, after}
+use Rattle.definition.specs.Calls.{State, noEntries, Call, pass, submit, surfaceRight, rangeRight, surfacesRight, actionsRight, bytesRight, countsRight, lentRight, passCall, passStep, submitState, called, call, after}
 use Rattle.definition.specs.Program.{line, endsBuffer, lines}
 use Rattle.definition.specs.declared.Range.{Range}
 use Rattle.definition.specs.declared.MemoryInitKind.{MemoryInitKind}
@@ -27,11 +27,13 @@ use Rattle.laws.proofs.Tests.{and-on}
 use Rattle.laws.proofs.Surfaces.{inside-range}
 use Rattle.laws.proofs.Verdicts.{then-left, then-right, unless-on}
 use Rattle.laws.proofs.Places.{surfaces-counted}
-use Rattle.laws.proofs.Submission.{submit-right, bytes-long, bytes-fresh}
+use Rattle.laws.proofs.Submission.{submit-right, bytes-long}
 use Rattle.laws.proofs.Room.{all-held, pass-listed, discards-fit}
 use Rattle.laws.proofs.Lent.{surfaces-append, actions-append, surfaces-retain, first-right, implicits-right}
+use Rattle.noninterference.specs.Claim.{Fresh}
 use Rattle.noninterference.specs.Theorem.{lineOf, endState, printed}
 use Rattle.noninterference.proofs.Passes.{All, all-map}
+use Rattle.noninterference.proofs.Fresh.{fresh-right}
 use Rattle.noninterference.proofs.Accepted.{Reads, check-reads, Ranged, accepted-okay}
 
 -- ── records in range
@@ -86,7 +88,7 @@ pass-right S vs p h = all-map (Ranged S) (RangeRight S) (λ x k. inside-range S 
 
 -- ── what can be lent
 
-module _ (S : Session) (room : surfaceCount S ≤ maxSurfaces) (vs : viewsRight S ≡ true) where
+module _ (S : Session) (vs : viewsRight S ≡ true) where
   record Lendable (σ : State) : Type 0 where
     right : Right S (σ .lists)
     discards : length (σ .lists .discards) ≤ maxDiscards
@@ -106,14 +108,18 @@ module _ (S : Session) (room : surfaceCount S ≤ maxSurfaces) (vs : viewsRight 
     ap (λ n. bytesRight n (σ .status)) (sym (surfaces-counted S)) ∙ h .status,
   )
 
-  fresh-lendable : Lendable fresh
-  fresh-lendable = record {
+  empty-lendable : (bytes : List ℕ) → bytesRight (length (surfacesOf S)) bytes ≡ true → Lendable (record { lists = noEntries; status = bytes })
+  empty-lendable bytes h = record {
     right = record { discards = refl; actions = refl; clears = refl };
     discards = omega arith;
     actions = omega arith;
     clears = omega arith;
-    status = bytes-fresh (length (surfacesOf S)) maxSurfaces (omega (arith, room, surfaces-counted S));
+    status = h;
   }
+
+  fresh-lendable : (σ : State) → Fresh S σ → Lendable σ
+  fresh-lendable σ h =
+      subst (λ (l : Lists). Lendable (record { lists = l; status = σ .status })) (sym (h .lists)) (empty-lendable (σ .status) (fresh-right S σ h))
 
   submit-lendable : (σ : State) → Lendable σ → Lendable (submitState S σ)
   submit-lendable σ h = record {
@@ -175,16 +181,18 @@ module _ (S : Session) (room : surfaceCount S ≤ maxSurfaces) (vs : viewsRight 
   after-lendable [] σ h = h
   after-lendable (c ∷ cs) σ h = after-lendable cs (call S c σ .state) (call-lendable c σ h)
 
-  pub never-six : (cs : List Call) → lentRight S (after S cs fresh) ≡ true
-  never-six cs = lendable-right (after S cs fresh) (after-lendable cs fresh fresh-lendable)
+  -- From a fresh state.
+  module _ (σ : State) (h : Fresh S σ) where
+    pub never-six : (cs : List Call) → lentRight S (after S cs σ) ≡ true
+    never-six cs = lendable-right (after S cs σ) (after-lendable cs σ (fresh-lendable σ h))
 
-  -- There is a status byte for each surface.
-  pub bytes-left : (cs : List Call) → length (surfacesOf S) ≤ length (after S cs fresh .status)
-  bytes-left cs = bytes-long (length (surfacesOf S)) (after S cs fresh .status) (after-lendable cs fresh fresh-lendable .status)
+    -- There is a status byte for each surface.
+    pub bytes-left : (cs : List Call) → length (surfacesOf S) ≤ length (after S cs σ .status)
+    bytes-left cs = bytes-long (length (surfacesOf S)) (after S cs σ .status) (after-lendable cs σ (fresh-lendable σ h) .status)
 
-  -- A submission after any calls is one.
-  pub submit-called : (cs : List Call) → call S submit (after S cs fresh) .state ≡ submitState S (after S cs fresh)
-  submit-called cs = ap (λ t. t .state) (call-called submit (after S cs fresh) (never-six cs))
+    -- A submission after any calls is one.
+    pub submit-called : (cs : List Call) → call S submit (after S cs σ) .state ≡ submitState S (after S cs σ)
+    submit-called cs = ap (λ t. t .state) (call-called submit (after S cs σ) (never-six cs))
 
   -- ── the program as calls
 
@@ -213,5 +221,5 @@ module _ (S : Session) (room : surfaceCount S ≤ maxSurfaces) (vs : viewsRight 
       next : State
       next = record { lists = checkPass S (S .pass k) (σ .lists) .lists; status = σ .status }
 
-  pub fresh-printed : printed S 0 (S .passCount) fresh ≡ lines S 0 (S .passCount) (fresh .lists)
-  fresh-printed = lines-printed (S .passCount) 0 fresh (omega arith) fresh-lendable
+  pub fresh-printed : (σ : State) → Fresh S σ → printed S 0 (S .passCount) σ ≡ lines S 0 (S .passCount) noEntries
+  fresh-printed σ h = lines-printed (S .passCount) 0 σ (omega arith) (fresh-lendable σ h) ∙ ap (lines S 0 (S .passCount)) (h .lists)

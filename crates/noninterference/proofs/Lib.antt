@@ -3,6 +3,7 @@ pub mod Spots
 pub mod Plans
 pub mod Passes
 pub mod Sound
+pub mod Fresh
 pub mod Cells
 pub mod Invariant
 pub mod Induction

@@ -2,10 +2,8 @@
 use mathlib.Core.Path.{_≡_}
 use mathlib.Core.Bool.{true}
 use mathlib.Core.List.{List, map}
-use Prim.Native.Nat.{ℕ, _≤_}
-use lib.ListN.{length}
-use Rattle.definition.specs.Sizes.{maxSurfaces}
-use Rattle.definition.specs.Session.{Session, Pass, surfacesOf}
+use Prim.Native.Nat.{ℕ}
+use Rattle.definition.specs.Session.{Session, Pass}
 use Rattle.definition.specs.Verdict.{isFine}
 use Rattle.definition.specs.Check.{check}
 use Rattle.definition.specs.Attachments.{Attached, attachments}
@@ -32,9 +30,8 @@ all-names S xs so = all-map (Sound S) Named (λ x h. h .names) xs so
 pub all-spreads : (S : Session) (xs : List Attached) → All (Sound S) xs → All Spreads xs
 all-spreads S xs so = all-map (Sound S) Spreads (λ x h. h .spreads) xs so
 
--- A session: a byte for each surface; and of each accepted pass, sound attachments, no surface reached twice, and a reply that tells what the attachments do.
+-- A session: of each accepted pass, sound attachments, no surface reached twice, and a reply that tells what the attachments do.
 pub record Fit (S : Session) : Type 0 where
-  pub room : length (surfacesOf S) ≤ maxSurfaces
   pub sound : (p : Pass) → isFine (check S p .verdict) ≡ true → All (Sound S) (attachments S p)
   pub distinct : (p : Pass) → isFine (check S p .verdict) ≡ true → Distinct (attachments S p)
   pub tells : (p : Pass) → isFine (check S p .verdict) ≡ true → (n : ℕ) (q : Seen) (c : List Surface)

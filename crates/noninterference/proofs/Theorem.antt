@@ -10,7 +10,7 @@ use Rattle.definition.specs.Readable.{lengthRight, headerRight, texturesRead, t
 use Rattle.definition.specs.Verdict.{nowhere, isFine, unless}
 use Rattle.definition.specs.Status.{cleared}
 use Rattle.definition.specs.Submission.{byteAfter}
-use Rattle.definition.specs.Calls.{State, fresh, Call, submit, call, after}
+use Rattle.definition.specs.Calls.{State, Call, submit, submitState, call, after}
 use Rattle.definition.specs.Program.{deskcheck}
 use Rattle.definition.specs.declared.Surface.{Surface}
 use Rattle.laws.specs.Surfaces.{Inside}
@@ -18,8 +18,9 @@ use Rattle.laws.proofs.Tests.{and-right}
 use Rattle.laws.proofs.Verdicts.{then-left, then-right, unless-on}
 use Rattle.laws.proofs.Submission.{after-spares, after-forgets, submitted-byte}
 use Rattle.noninterference.specs.Memory.{byteOf}
-use Rattle.noninterference.specs.Claim.{byteAt}
-use Rattle.noninterference.specs.Theorem.{DemandThree, FirstAnswers, Spares, Forgets, NeverSix, Prints}
+use Rattle.noninterference.specs.Claim.{Fresh, byteAt}
+use Rattle.noninterference.specs.Theorem.{DemandThree, FirstAnswers, Spares, Forgets, NeverSix, FreshStarts, Prints}
+use Rattle.noninterference.proofs.Fresh.{fresh-is}
 use Rattle.noninterference.proofs.Induction.{fit-claim, after-append}
 use Rattle.noninterference.proofs.Induction as Induction
 use Rattle.noninterference.proofs.Accepted.{conditions-fit}
@@ -44,7 +45,6 @@ readable s h =
 pub demand-three : DemandThree
 demand-three s h st single flat =
     fit-claim (session s) (conditions-fit (session s) (record {
-      room = readable s h .counted;
       views = readable s h .views;
       strict = st;
       single = single;
@@ -54,39 +54,50 @@ demand-three s h st single flat =
 pub first-answers : FirstAnswers
 first-answers = Induction.first-answers
 
--- A surface's byte after one submission more.
-submit-byte : (s : List ℕ) → sessionRefusal s ≡ 0 → (calls : List Call) (x : Surface) → Inside (session s) x
-    → byteAt (session s) (calls ++ (submit ∷ [])) x
-    ≡ byteAfter (after (session s) calls fresh .lists .actions) (after (session s) calls fresh .lists .discards) x (byteAt (session s) calls x)
-submit-byte s h calls x ok =
-    let S : Session = session s in
-    let σ : State = after S calls fresh in
-    ap (λ τ. byteOf S (τ .status) x) (after-append S calls (submit ∷ []) fresh ∙ Lendable.submit-called S (readable s h .counted) (readable s h .views) calls)
-    ∙ submitted-byte S (σ .lists .actions) (σ .lists .discards) (σ .status) (Lendable.bytes-left S (readable s h .counted) (readable s h .views) calls) x ok
+-- From a fresh state, in a readable session.
+module _ (s : List ℕ) (h : sessionRefusal s ≡ 0) (σ : State) (new : Fresh (session s) σ) where
+  abbrev S : Session
+  S = session s
+
+  -- One submission more.
+  submit-more : (calls : List Call) → after S (calls ++ (submit ∷ [])) σ ≡ submitState S (after S calls σ)
+  submit-more calls = after-append S calls (submit ∷ []) σ ∙ Lendable.submit-called S (readable s h .views) σ new calls
+
+  -- A surface's byte after it.
+  submit-byte : (calls : List Call) (x : Surface) → Inside S x
+      → byteAt S σ (calls ++ (submit ∷ [])) x ≡ byteAfter (after S calls σ .lists .actions) (after S calls σ .lists .discards) x (byteAt S σ calls x)
+  submit-byte calls x ok =
+      let τ : State = after S calls σ in
+      ap (λ υ. byteOf S (υ .status) x) (submit-more calls)
+      ∙ submitted-byte S (τ .lists .actions) (τ .lists .discards) (τ .status) (Lendable.bytes-left S (readable s h .views) σ new calls) x ok
+
+  two-submissions : (calls : List Call) → after S (calls ++ (submit ∷ submit ∷ [])) σ ≡ after S ((calls ++ (submit ∷ [])) ++ (submit ∷ [])) σ
+  two-submissions calls =
+      after-append S calls (submit ∷ submit ∷ []) σ
+      ∙ sym (ap (λ υ. call S submit υ .state) (after-append S calls (submit ∷ []) σ))
+      ∙ sym (after-append S (calls ++ (submit ∷ [])) (submit ∷ []) σ)
 
 pub spares : Spares
-spares s h calls x ok f =
-    let σ : State = after (session s) calls fresh in
-    ap cleared (submit-byte s h calls x ok) ∙ after-spares (σ .lists .actions) (σ .lists .discards) x (byteAt (session s) calls x) f
-
--- After a submission no action is listed.
-no-actions : (s : List ℕ) → sessionRefusal s ≡ 0 → (calls : List Call) → after (session s) (calls ++ (submit ∷ [])) fresh .lists .actions ≡ []
-no-actions s h calls =
-    ap (λ τ. τ .lists .actions) (after-append (session s) calls (submit ∷ []) fresh ∙ Lendable.submit-called (session s) (readable s h .counted) (readable s h .views) calls)
+spares s h σ new calls x ok f =
+    let τ : State = after (session s) calls σ in
+    ap cleared (submit-byte s h σ new calls x ok) ∙ after-spares (τ .lists .actions) (τ .lists .discards) x (byteAt (session s) σ calls x) f
 
 pub forgets : Forgets
-forgets s h calls x ok =
+forgets s h σ new calls x ok =
     let S : Session = session s in
     let first : List Call = calls ++ (submit ∷ []) in
-    let σ : State = after S first fresh in
-    ap (λ τ. cleared (byteOf S (τ .status) x)) (after-append S calls (submit ∷ submit ∷ []) fresh ∙ sym (ap (λ τ. call S submit τ .state) (after-append S calls (submit ∷ []) fresh)) ∙ sym (after-append S first (submit ∷ []) fresh))
-    ∙ ap cleared (submit-byte s h first x ok)
-    ∙ ap (λ a. cleared (byteAfter a (σ .lists .discards) x (byteAt S first x))) (no-actions s h calls)
-    ∙ after-forgets (σ .lists .discards) x (byteAt S first x)
+    let τ : State = after S first σ in
+    ap (λ υ. cleared (byteOf S (υ .status) x)) (two-submissions s h σ new calls)
+    ∙ ap cleared (submit-byte s h σ new first x ok)
+    ∙ ap (λ υ. cleared (byteAfter (υ .lists .actions) (τ .lists .discards) x (byteAt S σ first x))) (submit-more s h σ new calls)
+    ∙ after-forgets (τ .lists .discards) x (byteAt S σ first x)
 
 pub never-six : NeverSix
-never-six s h calls = Lendable.never-six (session s) (readable s h .counted) (readable s h .views) calls
+never-six s h σ new calls = Lendable.never-six (session s) (readable s h .views) σ new calls
+
+pub fresh-starts : FreshStarts
+fresh-starts s h = fresh-is (session s) (readable s h .counted)
 
 pub prints : Prints
 unfolding deskcheck
-prints s h = rw (eq-eqb (sessionRefusal s) 0 h, deskcheck) (sym (Lendable.fresh-printed (session s) (readable s h .counted) (readable s h .views)))
+prints s h σ new = rw (eq-eqb (sessionRefusal s) 0 h, deskcheck) (sym (Lendable.fresh-printed (session s) (readable s h .views) σ new))

@@ -1,33 +1,40 @@
--- Demand 3: what is claimed of a session, for any list of calls from a fresh state and after each of them.
+-- Demand 3: what is claimed of a session, for any list of calls from any fresh state and after each of them.
 use mathlib.Core.Path.{_≡_}
 use mathlib.Core.Bool.{Bool, true, false, not, _&&_}
 use mathlib.Core.List.{List, [], _∷_, _++_}
 use mathlib.Core.Option.{Option, none, some}
 use Prim.Native.Nat.{ℕ}
-use lib.ListN.{take}
-use Rattle.definition.specs.Session.{Session}
+use lib.ListN.{take, replicate}
+use Rattle.definition.specs.Session.{Session, surfaceCount}
 use Rattle.definition.specs.Status.{filled}
-use Rattle.definition.specs.Calls.{Call, answers, after, fresh}
+use Rattle.definition.specs.Calls.{State, noEntries, Call, answers, after}
 use Rattle.definition.specs.declared.Surface.{Surface}
 use Rattle.laws.specs.Surfaces.{Inside}
 use Rattle.noninterference.specs.Memory.{Aspect, hasAspect, Part, Use, Told, Event, refused, accepted, done, events, Cells, Drawing, Contents, byteOf, useAt, loaded, cells}
 
--- ── what the calls tell, and what they leave
+-- ── where the calls start
 
--- The memory is told what the calls answer, from a fresh state.
-abbrev pub heard : Session → List Call → List Event
-heard S calls = events S 0 (answers S calls fresh)
+-- A state is fresh for a session: no entries, and a status byte of 0 for each surface. Behind these the bytes are anything.
+pub record Fresh (S : Session) (σ : State) : Type 0 where
+  pub lists : σ .lists ≡ noEntries
+  pub status : take (surfaceCount S) (σ .status) ≡ replicate (surfaceCount S) 0
+
+-- ── what the calls tell, and what they leave, from a state σ
+
+-- The memory is told what the calls answer.
+abbrev pub heard : Session → State → List Call → List Event
+heard S σ calls = events S 0 (answers S calls σ)
 
 -- The status byte of a surface after the calls.
-abbrev pub byteAt : Session → List Call → Surface → ℕ
-byteAt S calls s = byteOf S (after S calls fresh .status) s
+abbrev pub byteAt : Session → State → List Call → Surface → ℕ
+byteAt S σ calls s = byteOf S (after S calls σ .status) s
 
 -- What the passes load or clear to, pass by pass, and the memory after the calls.
-abbrev pub loadedBy : {Val : Type 0} → Drawing Val → Contents Val → Session → List Call → List (List Val)
-loadedBy D c S calls = loaded D (c .left) S (heard S calls) [] (c .first)
+abbrev pub loadedBy : {Val : Type 0} → Drawing Val → Contents Val → Session → State → List Call → List (List Val)
+loadedBy D c S σ calls = loaded D (c .left) S (heard S σ calls) [] (c .first)
 
-abbrev pub memoryAfter : {Val : Type 0} → Drawing Val → Contents Val → Session → List Call → Cells Val
-memoryAfter D c S calls = cells D (c .left) S (heard S calls) [] (c .first)
+abbrev pub memoryAfter : {Val : Type 0} → Drawing Val → Contents Val → Session → State → List Call → Cells Val
+memoryAfter D c S σ calls = cells D (c .left) S (heard S σ calls) [] (c .first)
 
 -- ── the last pass that had a surface
 
@@ -38,8 +45,8 @@ submittedFrom (refused ∷ es) hs ws = submittedFrom es hs ws
 submittedFrom (accepted w ∷ es) hs ws = submittedFrom es hs (ws ++ (w ∷ []))
 submittedFrom (done status ∷ es) hs ws = submittedFrom es (hs ++ ws) []
 
-abbrev pub submittedPasses : Session → List Call → List Told
-submittedPasses S calls = submittedFrom (heard S calls) [] []
+abbrev pub submittedPasses : Session → State → List Call → List Told
+submittedPasses S σ calls = submittedFrom (heard S σ calls) [] []
 
 -- What the last of the passes that had the surface as an attachment did there, or else o.
 abbrev pub later : Option Use → Option Use → Option Use
@@ -66,17 +73,17 @@ abbrev pub Agree : {Val : Type 0} → Session → Surface → Cells Val → Cell
 Agree S s m n = (a : Aspect) → hasAspect S s a ≡ true → m s a ≡ n s a
 
 -- Two runs over the same calls with the same drawing; the contents at the start and after each discard are c in one and c′ in the other.
-pub record Hidden {Val : Type 0} (D : Drawing Val) (c c′ : Contents Val) (S : Session) (calls : List Call) : Type 0 where
+pub record Hidden {Val : Type 0} (D : Drawing Val) (c c′ : Contents Val) (S : Session) (σ : State) (calls : List Call) : Type 0 where
   -- They load equal values everywhere.
-  pub loads : loadedBy D c S calls ≡ loadedBy D c′ S calls
+  pub loads : loadedBy D c S σ calls ≡ loadedBy D c′ S σ calls
   -- After the first n calls, for every n: filled are exactly the surfaces that some submitted pass had as an attachment and that the last
   -- such pass did not discard in every aspect,
   pub marks : (n : ℕ) (s : Surface) → Inside S s
-      → filled (byteAt S (take n calls) s) ≡ kept (lastUse none (submittedPasses S (take n calls)) s)
+      → filled (byteAt S σ (take n calls) s) ≡ kept (lastUse none (submittedPasses S σ (take n calls)) s)
   -- and these are equal in both.
-  pub equal : (n : ℕ) (s : Surface) → Inside S s → filled (byteAt S (take n calls) s) ≡ true
-      → Agree S s (memoryAfter D c S (take n calls)) (memoryAfter D c′ S (take n calls))
+  pub equal : (n : ℕ) (s : Surface) → Inside S s → filled (byteAt S σ (take n calls) s) ≡ true
+      → Agree S s (memoryAfter D c S σ (take n calls)) (memoryAfter D c′ S σ (take n calls))
 
--- For every type of values, drawing, contents at the start and after discards, and list of calls.
+-- For every type of values, drawing, contents at the start and after discards, fresh state and list of calls.
 abbrev pub Claim : Session → Type 1
-Claim S = (Val : Type 0) (D : Drawing Val) (c c′ : Contents Val) (calls : List Call) → Hidden D c c′ S calls
+Claim S = (Val : Type 0) (D : Drawing Val) (c c′ : Contents Val) (σ : State) → Fresh S σ → (calls : List Call) → Hidden D c c′ S σ calls

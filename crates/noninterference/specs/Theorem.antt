@@ -12,7 +12,7 @@ use Rattle.definition.specs.Calls.{State, fresh, Call, pass, submit, Answer, ch
 use Rattle.definition.specs.Program.{line, endsBuffer, deskcheck}
 use Rattle.definition.specs.declared.Surface.{Surface}
 use Rattle.laws.specs.Surfaces.{Inside}
-use Rattle.noninterference.specs.Claim.{byteAt, Claim}
+use Rattle.noninterference.specs.Claim.{Fresh, byteAt, Claim}
 
 -- Document 01's conditions: P of every byte string that is a readable session with the strict flag, one-layer views and no 3D texture.
 abbrev pub OfStrictSessions : (List ℕ → Type 1) → Type 1
@@ -35,20 +35,29 @@ FirstAnswers = (S : Session) (calls : List Call) (σ : State) (n : ℕ) → answ
 abbrev pub Spares : Type 0
 Spares =
     (s : List ℕ) → sessionRefusal s ≡ 0
+    → (σ : State) → Fresh (session s) σ
     → (calls : List Call) (x : Surface) → Inside (session s) x
-    → filled (byteAt (session s) calls x) ≡ true
-    → cleared (byteAt (session s) (calls ++ (submit ∷ [])) x) ≡ false
+    → filled (byteAt (session s) σ calls x) ≡ true
+    → cleared (byteAt (session s) σ (calls ++ (submit ∷ [])) x) ≡ false
 
 -- and forgets the 2 of earlier ones: one that nothing waits for leaves no 2.
 abbrev pub Forgets : Type 0
 Forgets =
     (s : List ℕ) → sessionRefusal s ≡ 0
+    → (σ : State) → Fresh (session s) σ
     → (calls : List Call) (x : Surface) → Inside (session s) x
-    → cleared (byteAt (session s) (calls ++ (submit ∷ submit ∷ [])) x) ≡ false
+    → cleared (byteAt (session s) σ (calls ++ (submit ∷ submit ∷ [])) x) ≡ false
 
 -- From a fresh state number 6 never refuses: after any calls, what is left can be lent.
 abbrev pub NeverSix : Type 0
-NeverSix = (s : List ℕ) → sessionRefusal s ≡ 0 → (calls : List Call) → lentRight (session s) (after (session s) calls fresh) ≡ true
+NeverSix =
+    (s : List ℕ) → sessionRefusal s ≡ 0
+    → (σ : State) → Fresh (session s) σ
+    → (calls : List Call) → lentRight (session s) (after (session s) calls σ) ≡ true
+
+-- The definition's `fresh`, with 4096 status bytes, is fresh for every readable session.
+abbrev pub FreshStarts : Type 0
+FreshStarts = (s : List ℕ) → sessionRefusal s ≡ 0 → Fresh (session s) fresh
 
 -- The line of a pass, from its call's answer and the state that it left.
 abbrev pub lineOf : ℕ → Answer → State → List ℕ
@@ -65,6 +74,9 @@ printed S k (suc n) σ =
     lineOf k (call S (pass k) σ .answer) (call S (pass k) σ .state)
     ∷ printed S (k + 1) n (endState S (endsBuffer (S .pass k) n) (call S (pass k) σ .state))
 
--- `deskcheck` prints what the calls answer.
+-- `deskcheck` prints what the calls answer from a fresh state.
 abbrev pub Prints : Type 0
-Prints = (s : List ℕ) → sessionRefusal s ≡ 0 → deskcheck s ≡ printed (session s) 0 (session s .passCount) fresh
+Prints =
+    (s : List ℕ) → sessionRefusal s ≡ 0
+    → (σ : State) → Fresh (session s) σ
+    → deskcheck s ≡ printed (session s) 0 (session s .passCount) σ
