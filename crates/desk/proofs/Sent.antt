@@ -1,40 +1,86 @@
--- What a submission leaves in the lent bytes: nothing where what is lent is not right, else no entries and the status bytes that it makes.
-use mathlib.Core.Path.{_≡_, refl, ap, _∙_}
+-- What a submission leaves in the lent bytes: everything where it is refused, else no entries and the status bytes that it makes.
+use mathlib.Core.Path.{_≡_, refl, sym, ap, _∙_}
 use mathlib.Core.Logic.{_≢_}
 use mathlib.Core.Bool.{true, false}
 use mathlib.Core.List.{List, []}
-use Prim.Native.Nat.{ℕ, _≤_}
+use Prim.Native.Nat.{ℕ, _*_, _≤_}
 use native.Mathlib.Omega.{arith}
 use lib.ListN.{length, drop}
+use Rattle.definition.specs.Sizes.{countBytes, surfaceNumbers, actionNumbers}
 use Rattle.definition.specs.Session.{session, surfacesOf}
+use Rattle.definition.specs.Readable.{sessionRefusal}
 use Rattle.definition.specs.Submission.{submitBytes}
-use Rattle.definition.specs.Calls.{submit, call}
+use Rattle.definition.specs.Calls.{submit, Step, lentRight}
+use Rattle.laws.specs.Records.{records}
 use Rattle.wire.specs.Writing.{putNumber}
-use Rattle.lent.proofs.Numbers.{number-past}
+use Rattle.wire.proofs.Writing.{put-read}
 use Rattle.memory_init.specs.declared.Counts.{Counts}
 use Rattle.records.specs.Lent.{surfaces, actions}
-use Rattle.lent.specs.State.{surfacesIn, actionsIn, stateIn}
-use Rattle.lent.specs.Judged.{rightIn}
-use Rattle.desk.specs.Entry.{numberIn, Stepped}
-use Rattle.desk.proofs.Calls.{same-step, lent-accepts, lent-refuses, none-listed}
+use Rattle.lent.specs.Numbers.{numbersAt}
+use Rattle.lent.specs.Packed.{countIn}
+use Rattle.lent.specs.State.{surfacesIn, actionsIn}
+use Rattle.lent.proofs.Numbers.{number-past}
+use Rattle.desk.specs.Entry.{Buffers, buffers, heldIn, tooShort, numberIn, entry, Opened}
+use Rattle.desk.specs.Promise.{LengthsStay, SubmitPromise}
+use Rattle.desk.proofs.Calls.{entry-short, entry-refused, entry-called, entry-not-lent}
 
--- What submit_lent promises.
-abbrev Sent : List ℕ → List ℕ → List ℕ → List ℕ → List ℕ → ℕ → List ℕ → List ℕ → List ℕ → Type 0
-Sent s d a c b r d′ a′ b′ =
-    Stepped numberIn (call (session s) submit (stateIn d a c b)) r (stateIn d′ a′ c b′)
-    (((drop 4 d′ ≡ drop 4 d) × (drop 4 a′ ≡ drop 4 a)) × (r ≢ 0 → (d′ ≡ d) × ((a′ ≡ a) × (b′ ≡ b))))
+-- ── a refusal
 
-module _ (s d a c b : List ℕ) where
-  pub sent-not-lent : rightIn s d a c b ≡ false → Sent s d a c b 6 d a b
-  sent-not-lent h = same-step numberIn _ _ (lent-refuses s submit d a c b h) 6 (stateIn d a c b) (refl, (refl, ((refl, refl), λ _. (refl, (refl, refl)))))
+module _ (s : List ℕ) (b : Buffers) (n : ℕ) where
+  -- The entry's step t leaves the state.
+  stays : (t : Step) → entry s submit b ≡ t → heldIn b ≡ t .state → n ≡ numberIn (t .answer) → SubmitPromise s b n b
+  stays t e h told = record {
+    number = told ∙ ap (λ (q : Step). numberIn (q .answer)) (sym e);
+    state = h ∙ ap (λ (q : Step). q .state) (sym e);
+    refused = λ _. refl;
+    discards = refl;
+    actions = refl;
+    clears = refl;
+    lengths = record { discards = refl; actions = refl; clears = refl };
+    bytes = refl;
+  }
 
+  pub sent-short : tooShort b ≡ true → n ≡ 6 → SubmitPromise s b n b
+  sent-short h e = stays _ (entry-short s submit b h) refl e
+
+  pub sent-refused : tooShort b ≡ false → n ≢ 0 → n ≡ sessionRefusal s → SubmitPromise s b n b
+  sent-refused h g e = stays _ (entry-refused s submit b h (λ z. g (e ∙ z))) refl e
+
+  pub sent-not-lent : Opened s b → lentRight (session s) (heldIn b) ≡ false → n ≡ 6 → SubmitPromise s b n b
+  sent-not-lent o h e = stays _ (entry-not-lent s submit b o h) refl e
+
+-- ── a submission
+
+-- A count of 0 leaves no record.
+none-listed : (b : List ℕ) → countBytes ≤ length b → (surfacesIn (putNumber 4 b 0 0) ≡ []) × (actionsIn (putNumber 4 b 0 0) ≡ [])
+unfolding records
+none-listed b h =
+    let e : countIn (putNumber 4 b 0 0) ≡ 0 = sym (put-read b 0 0 h (omega arith)) in
+    (ap (λ n. surfaces n (numbersAt (putNumber 4 b 0 0) countBytes (surfaceNumbers * n))) e, ap (λ n. actions n (numbersAt (putNumber 4 b 0 0) countBytes (actionNumbers * n))) e)
+
+-- Nothing stands before the count.
+rest-stays : (b b′ : List ℕ) → b′ ≡ putNumber 4 b 0 0 → drop countBytes b′ ≡ drop countBytes b
+rest-stays b b′ e = ap (drop countBytes) e ∙ number-past b 0 0 4 countBytes (omega arith)
+
+module _ (s d a c b : List ℕ) (d′ a′ b′ : List ℕ) where
   -- The counts are written, and the status bytes are made of the numbers x and y, which hold the discards and actions that are lent.
-  pub sent-all : (n : Counts) (x y d′ a′ b′ : List ℕ) → rightIn s d a c b ≡ true → 4 ≤ length d → 4 ≤ length a → surfaces (n .discards) x ≡ surfacesIn d → actions (n .actions) y ≡ actionsIn a
-      → d′ ≡ putNumber 4 d 0 0 → a′ ≡ putNumber 4 a 0 0 → b′ ≡ submitBytes (actions (n .actions) y) (surfaces (n .discards) x) (surfacesOf (session s)) b → Sent s d a c b 0 d′ a′ b′
-  sent-all n x y d′ a′ b′ h ld la discards actions ed ea eb =
+  pub sent-all : (n : Counts) (x y : List ℕ) → Opened s (buffers d a c b) → lentRight (session s) (heldIn (buffers d a c b)) ≡ true → countBytes ≤ length d → countBytes ≤ length a
+      → surfaces (n .discards) x ≡ surfacesIn d → actions (n .actions) y ≡ actionsIn a → d′ ≡ putNumber 4 d 0 0 → a′ ≡ putNumber 4 a 0 0
+      → b′ ≡ submitBytes (actions (n .actions) y) (surfaces (n .discards) x) (surfacesOf (session s)) b
+      → length d′ ≡ length d → length a′ ≡ length a → length b′ ≡ length b → SubmitPromise s (buffers d a c b) 0 (buffers d′ a′ c b′)
+  sent-all n x y o h ld la discards actions ed ea eb nd na nb =
       let no-discards : surfacesIn d′ ≡ [] = ap surfacesIn ed ∙ none-listed d ld .0 in
       let no-actions : actionsIn a′ ≡ [] = ap actionsIn ea ∙ none-listed a la .1 in
       let bytes = eb ∙ (λ q. submitBytes (actions q) (discards q) (surfacesOf (session s)) b) in
-      let rests : (drop 4 d′ ≡ drop 4 d) × (drop 4 a′ ≡ drop 4 a) = (ap (drop 4) ed ∙ number-past d 0 0 4 4 (omega arith), ap (drop 4) ea ∙ number-past a 0 0 4 4 (omega arith)) in
-      same-step numberIn _ _ (lent-accepts s submit d a c b h) 0 (stateIn d′ a′ c b′)
-      (refl, ((λ q. record { lists = record { discards = no-discards q; actions = no-actions q; clears = surfacesIn c }; status = bytes q }), (rests, λ g. absurd (g refl))))
+      let step = entry-called s submit (buffers d a c b) o h in
+      record {
+        number = ap (λ (q : Step). numberIn (q .answer)) (sym step);
+        state = (λ q. record { lists = record { discards = no-discards q; actions = no-actions q; clears = surfacesIn c }; status = bytes q })
+            ∙ ap (λ (q : Step). q .state) (sym step);
+        refused = λ g. absurd (g refl);
+        discards = rest-stays d d′ ed;
+        actions = rest-stays a a′ ea;
+        clears = refl;
+        lengths = record { discards = nd; actions = na; clears = refl };
+        bytes = nb;
+      }

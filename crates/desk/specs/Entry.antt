@@ -1,18 +1,48 @@
--- A call at an entry point: a short buffer is 6 first of all, then the session's own refusal, then the call.
+-- What a caller lends, and a call at an entry point: a short buffer is 6 first of all, then the session's own refusal, then the call.
 use Prim.Native.Nat.{ℕ}
 use mathlib.Core.List.{List}
-use mathlib.Core.Bool.{cond}
+use mathlib.Core.Bool.{Bool, false, cond}
 use mathlib.Core.Path.{_≡_}
 use lib.Dec.{eqb}
-use lib.ListN.{drop}
-use Rattle.definition.specs.Sizes.{listBytes}
 use Rattle.definition.specs.Session.{session}
 use Rattle.definition.specs.Readable.{sessionRefusal}
 use Rattle.definition.specs.Verdict.{nowhere, refusedAt}
+use Rattle.definition.specs.MemoryInit.{Lists}
 use Rattle.definition.specs.Pass.{refusal}
 use Rattle.definition.specs.Calls.{State, Call, pass, submit, Answer, checked, submitted, Step, call}
-use Rattle.lent.specs.Packed.{countIn}
-use Rattle.lent.specs.State.{stateIn, short}
+use Rattle.lent.specs.State.{surfacesIn, actionsIn, short}
+
+-- ── what is lent
+
+-- The bytes of the three lists.
+pub record ListBytes : Type 0 where
+  pub discards : List ℕ
+  pub actions : List ℕ
+  pub clears : List ℕ
+
+-- All four buffers.
+pub record Buffers : Type 0 where
+  pub lists : ListBytes
+  pub status : List ℕ
+
+abbrev pub listBuffers : (discards actions clears : List ℕ) → ListBytes
+listBuffers d a c = record { discards = d; actions = a; clears = c }
+
+abbrev pub buffers : (discards actions clears status : List ℕ) → Buffers
+buffers d a c status = record { lists = listBuffers d a c; status = status }
+
+-- What they hold.
+abbrev pub listsIn : ListBytes → Lists
+listsIn l = record { discards = surfacesIn (l .discards); actions = actionsIn (l .actions); clears = surfacesIn (l .clears) }
+
+abbrev pub heldIn : Buffers → State
+heldIn b = record { lists = listsIn (b .lists); status = b .status }
+
+-- One of them is too short.
+abbrev pub tooShort : Buffers → Bool
+tooShort b = short (b .lists .discards) (b .lists .actions) (b .lists .clears) (b .status)
+
+-- ── a call
 
 -- Refused as n: everything stays as found.
 abbrev pub refusedCall : ℕ → Call → State → Step
@@ -24,17 +54,14 @@ abbrev pub numberIn : Answer → ℕ
 numberIn (checked r) = r .verdict .number
 numberIn (submitted n status) = n
 
--- The session's bytes, the call, and what is lent: discards, actions, clears, status bytes.
-unfoldable pub entry : List ℕ → Call → List ℕ → List ℕ → List ℕ → List ℕ → Step
-entry s k d a c status =
-    cond (short d a c status) (refusedCall 6 k (stateIn d a c status))
-    (cond (eqb (sessionRefusal s) 0) (call (session s) k (stateIn d a c status))
-    (refusedCall (sessionRefusal s) k (stateIn d a c status)))
+-- The session's bytes, the call, and what is lent.
+unfoldable pub entry : List ℕ → Call → Buffers → Step
+entry s k b =
+    cond (tooShort b) (refusedCall 6 k (heldIn b))
+    (cond (eqb (sessionRefusal s) 0) (call (session s) k (heldIn b))
+    (refusedCall (sessionRefusal s) k (heldIn b)))
 
--- The bytes past the records of a list stay.
-abbrev pub RestStays : ℕ → List ℕ → List ℕ → Type 0
-RestStays k b b′ = drop (listBytes k (countIn b′)) b′ ≡ drop (listBytes k (countIn b′)) b
-
--- What a C function promises of a call whose step is t: the reply reads the answer, what is lent then holds the state, and the rest.
-abbrev pub Stepped : {X : Type 0} → (Answer → X) → Step → X → State → Type 0 → Type 0
-Stepped read t r σ Rest = (r ≡ read (t .answer)) × ((σ ≡ t .state) × Rest)
+-- The buffers are long enough and the session is readable.
+pub record Opened (s : List ℕ) (b : Buffers) : Type 0 where
+  pub long : tooShort b ≡ false
+  pub readable : sessionRefusal s ≡ 0

@@ -1,5 +1,6 @@
 -- The root of what this crate means.
 pub mod Entry
 pub mod Reply
+pub mod Promise
 pub mod Whole
 pub mod EntryPoints

@@ -1,5 +1,5 @@
-// The entry points of the desk check, for callers in C and Rust. Each tests its own input and has no `requires`; its contract says
-// by equations what the reply means and what the lent lists and status bytes then hold, refused or not.
+// The entry points of the desk check, for callers in C and Rust. Each tests its own input and has no `requires`; its contract is one
+// promise (specs/Promise, specs/Whole), which says what the reply means and what the lent lists and status bytes then hold, refused or not.
 // In EntryPoints of specs/ and proofs/: demand 3 of calls of deskcheck_pass and deskcheck_submit, one after the other from fresh buffers.
 pub mod reply;
 
@@ -27,22 +27,10 @@ use session::header::pass_count;
 use submission::submit;
 use wire::put_u32;
 ghost use mathlib.Core.Path.{_≡_};
-ghost use mathlib.Core.Logic.{_≢_};
-ghost use mathlib.Core.Bool.{true, false};
-ghost use mathlib.Core.List.{List};
-ghost use Prim.Native.Nat.{ℕ, _≤_, _<_};
-ghost use lib.ListN.{length, drop};
-ghost use Rattle.definition.specs.Sizes.{surfaceNumbers, actionNumbers, discardsBytes, actionsBytes, clearsBytes};
 ghost use Rattle.definition.specs.Readable.{sessionRefusal};
-ghost use Rattle.definition.specs.Session as Se;
-ghost use Rattle.definition.specs.Calls.{pass, submit, call};
-ghost use Rattle.memory_init.specs.Lent.{Within};
-ghost use Rattle.lent.specs.Right.{countsIn};
-ghost use Rattle.lent.specs.State.{stateIn, short};
-ghost use Rattle.lent.specs.Judged.{rightIn};
-ghost use Rattle.desk.specs.Entry.{numberIn, entry, RestStays};
-ghost use Rattle.desk.specs.Reply.{answered, Passed};
-ghost use Rattle.desk.specs.Whole.{wholeNumber, RowsOf};
+ghost use Rattle.desk.specs.Entry.{listBuffers, buffers, Opened};
+ghost use Rattle.desk.specs.Promise.{PassPromise, SubmitPromise, CheckLent, CheckPromise};
+ghost use Rattle.desk.specs.Whole.{WholePromise};
 
 // The session's refusal: 0, or 1 to 4.
 #[no_mangle]
@@ -60,11 +48,11 @@ fn submit_lent(
     clears: &[u8],
     status: &mut [u8],
 ) -> u32
-    requires { ⌜ (short (now discards) (now actions) (now clears) (now status) ≡ false) × (sessionRefusal (now session) ≡ 0) ⌝ }
-    ensures { λ r. ⌜ r ≡ numberIn (call (Se.session (now (session .entry))) submit (stateIn (now (discards .entry)) (now (actions .entry)) (now (clears .entry)) (now (status .entry))) .answer) ⌝ }
-    ensures { λ _. ⌜ stateIn (now (discards .exit)) (now (actions .exit)) (now (clears .entry)) (now (status .exit)) ≡ call (Se.session (now (session .entry))) submit (stateIn (now (discards .entry)) (now (actions .entry)) (now (clears .entry)) (now (status .entry))) .state ⌝ }
-    ensures { λ _. ⌜ (drop 4 (now (discards .exit)) ≡ drop 4 (now (discards .entry))) × (drop 4 (now (actions .exit)) ≡ drop 4 (now (actions .entry))) ⌝ }
-    ensures { λ r. ⌜ (r ≢ 0 → (now (discards .exit) ≡ now (discards .entry)) × ((now (actions .exit) ≡ now (actions .entry)) × (now (status .exit) ≡ now (status .entry)))) ⌝ }
+    requires { ⌜ Opened (now session) (buffers (now discards) (now actions) (now clears) (now status)) ⌝ }
+    ensures { λ r. ⌜ SubmitPromise (now (session .entry))
+        (buffers (now (discards .entry)) (now (actions .entry)) (now (clears .entry)) (now (status .entry)))
+        r
+        (buffers (now (discards .exit)) (now (actions .exit)) (now (clears .entry)) (now (status .exit))) ⌝ }
 {
     let lent = judge_lent(session, discards, actions, clears, status);
     if !lent.right {
@@ -91,10 +79,10 @@ pub extern "C" fn deskcheck_submit(
     clears: &[u8],
     status: &mut [u8],
 ) -> u32
-    ensures { λ r. ⌜ r ≡ numberIn (entry (now (session .entry)) submit (now (discards .entry)) (now (actions .entry)) (now (clears .entry)) (now (status .entry)) .answer) ⌝ }
-    ensures { λ _. ⌜ stateIn (now (discards .exit)) (now (actions .exit)) (now (clears .entry)) (now (status .exit)) ≡ entry (now (session .entry)) submit (now (discards .entry)) (now (actions .entry)) (now (clears .entry)) (now (status .entry)) .state ⌝ }
-    ensures { λ _. ⌜ (drop 4 (now (discards .exit)) ≡ drop 4 (now (discards .entry))) × (drop 4 (now (actions .exit)) ≡ drop 4 (now (actions .entry))) ⌝ }
-    ensures { λ r. ⌜ (r ≢ 0 → (now (discards .exit) ≡ now (discards .entry)) × ((now (actions .exit) ≡ now (actions .entry)) × (now (status .exit) ≡ now (status .entry)))) ⌝ }
+    ensures { λ r. ⌜ SubmitPromise (now (session .entry))
+        (buffers (now (discards .entry)) (now (actions .entry)) (now (clears .entry)) (now (status .entry)))
+        r
+        (buffers (now (discards .exit)) (now (actions .exit)) (now (clears .entry)) (now (status .exit))) ⌝ }
 {
     if is_short(discards, actions, clears, status) {
         return 6;
@@ -116,9 +104,11 @@ fn check_lent(
     clears: &mut [u8],
     n: Counts,
 ) -> Reply
-    requires { ⌜ (n ≡ countsIn (now discards) (now actions) (now clears)) × (Within n × (i < Se.session (now session) .passCount)) ⌝ }
-    requires { ⌜ (discardsBytes ≤ length (now discards)) × ((actionsBytes ≤ length (now actions)) × (clearsBytes ≤ length (now clears))) ⌝ }
-    ensures { λ r. ⌜ ((b : List ℕ) → rightIn (now (session .entry)) (now (discards .entry)) (now (actions .entry)) (now (clears .entry)) b ≡ true → Passed (now (session .entry)) i (now (discards .entry)) (now (actions .entry)) (now (clears .entry)) b r (now (discards .exit)) (now (actions .exit)) (now (clears .exit))) ⌝ }
+    requires { ⌜ CheckLent (now session) i (listBuffers (now discards) (now actions) (now clears)) n ⌝ }
+    ensures { λ r. ⌜ CheckPromise (now (session .entry)) i
+        (listBuffers (now (discards .entry)) (now (actions .entry)) (now (clears .entry)))
+        r
+        (listBuffers (now (discards .exit)) (now (actions .exit)) (now (clears .exit))) ⌝ }
 {
     let mut d: [u32; DISCARDS_NUMBERS] = [0; DISCARDS_NUMBERS];
     let mut a: [u32; ADDED_NUMBERS] = [0; ADDED_NUMBERS];
@@ -150,8 +140,11 @@ fn pass_lent(
     clears: &mut [u8],
     status: &[u8],
 ) -> Reply
-    requires { ⌜ (short (now discards) (now actions) (now clears) (now status) ≡ false) × (sessionRefusal (now session) ≡ 0) ⌝ }
-    ensures { λ r. ⌜ Passed (now (session .entry)) i (now (discards .entry)) (now (actions .entry)) (now (clears .entry)) (now (status .entry)) r (now (discards .exit)) (now (actions .exit)) (now (clears .exit)) ⌝ }
+    requires { ⌜ Opened (now session) (buffers (now discards) (now actions) (now clears) (now status)) ⌝ }
+    ensures { λ r. ⌜ PassPromise (now (session .entry)) i
+        (buffers (now (discards .entry)) (now (actions .entry)) (now (clears .entry)) (now (status .entry)))
+        r
+        (buffers (now (discards .exit)) (now (actions .exit)) (now (clears .exit)) (now (status .entry))) ⌝ }
 {
     let lent = judge_lent(session, discards, actions, clears, status);
     if !lent.right {
@@ -175,10 +168,10 @@ pub extern "C" fn deskcheck_pass(
     clears: &mut [u8],
     status: &[u8],
 ) -> Reply
-    ensures { λ r. ⌜ r ≡ answered (entry (now (session .entry)) (pass i) (now (discards .entry)) (now (actions .entry)) (now (clears .entry)) (now (status .entry)) .answer) ⌝ }
-    ensures { λ _. ⌜ stateIn (now (discards .exit)) (now (actions .exit)) (now (clears .exit)) (now (status .entry)) ≡ entry (now (session .entry)) (pass i) (now (discards .entry)) (now (actions .entry)) (now (clears .entry)) (now (status .entry)) .state ⌝ }
-    ensures { λ _. ⌜ (RestStays surfaceNumbers (now (discards .entry)) (now (discards .exit))) × ((RestStays actionNumbers (now (actions .entry)) (now (actions .exit))) × (RestStays surfaceNumbers (now (clears .entry)) (now (clears .exit)))) ⌝ }
-    ensures { λ r. ⌜ (r .number ≢ 0 → (now (discards .exit) ≡ now (discards .entry)) × ((now (actions .exit) ≡ now (actions .entry)) × (now (clears .exit) ≡ now (clears .entry)))) ⌝ }
+    ensures { λ r. ⌜ PassPromise (now (session .entry)) i
+        (buffers (now (discards .entry)) (now (actions .entry)) (now (clears .entry)) (now (status .entry)))
+        r
+        (buffers (now (discards .exit)) (now (actions .exit)) (now (clears .exit)) (now (status .entry))) ⌝ }
 {
     if is_short(discards, actions, clears, status) {
         return refused_reply(6);
@@ -194,9 +187,7 @@ pub extern "C" fn deskcheck_pass(
 // bytes past the rows stay; a refusal leaves every byte.
 #[no_mangle]
 pub extern "C" fn deskcheck_session(session: &[u8], rows: &mut [u8]) -> u32
-    ensures { λ r. ⌜ r ≡ wholeNumber (now (session .entry)) (now (rows .entry)) ⌝ }
-    ensures { λ r. ⌜ (r ≡ 0 → RowsOf (now (session .entry)) (now (rows .entry)) (now (rows .exit))) ⌝ }
-    ensures { λ r. ⌜ (r ≢ 0 → now (rows .exit) ≡ now (rows .entry)) ⌝ }
+    ensures { λ r. ⌜ WholePromise (now (session .entry)) (now (rows .entry)) r (now (rows .exit)) ⌝ }
 {
     if rows.len() < ROWS_BYTES {
         return 6;

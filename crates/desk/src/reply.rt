@@ -1,4 +1,4 @@
-// The reply to one pass as C callers see it: numbers, and attachments in seventeen records.
+// The reply to one pass as C callers see it: numbers, and attachments in as many records as a pass has at most.
 use definition::Attachment;
 use definition::sizes::MAX_ATTACHMENTS;
 use definition::verdicts::NOWHERE;

@@ -27,11 +27,11 @@ use Rattle.noninterference.proofs.Accepted.{conditions-fit}
 use Rattle.noninterference.proofs.Lendable as Lendable
 
 -- What 3 and 4 give of a readable session.
-record Readable (s : List ℕ) : Type 0 where
-  counted : surfaceCount (session s) ≤ maxSurfaces
-  views : viewsRight (session s) ≡ true
+pub record Readable (s : List ℕ) : Type 0 where
+  pub counted : surfaceCount (session s) ≤ maxSurfaces
+  pub views : viewsRight (session s) ≡ true
 
-readable : (s : List ℕ) → sessionRefusal s ≡ 0 → Readable s
+pub readable : (s : List ℕ) → sessionRefusal s ≡ 0 → Readable s
 unfolding sessionVerdict texturesRight
 readable s h =
     let f : isFine (sessionVerdict s) ≡ true = eq-eqb (sessionRefusal s) 0 h in

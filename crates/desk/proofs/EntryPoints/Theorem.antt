@@ -11,13 +11,14 @@ use lib.Seq.{take-all}
 use Rattle.definition.specs.Sizes.{maxSurfaces, surfaceNumbers, actionNumbers, discardsBytes, actionsBytes, clearsBytes, maxAttachments}
 use Rattle.definition.specs.Session.{Session, Pass, session}
 use Rattle.definition.specs.Readable.{sessionRefusal}
+use Rattle.definition.specs.Sizes.{maxSurfaces, countBytes, surfaceNumbers, actionNumbers, maxAttachments, discardsBytes, actionsBytes, clearsBytes}
 use Rattle.definition.specs.Status.{filled}
 use Rattle.definition.specs.Verdict.{isFine, nowhere, refusedAt}
 use Rattle.definition.specs.Check.{check}
 use Rattle.definition.specs.MemoryInit.{Lists}
 use Rattle.definition.specs.Attachments.{attachments}
 use Rattle.definition.specs.Pass.{Reply, attachmentReply, Outcome, refusedPass, passVerdict, checkPass}
-use Rattle.definition.specs.Calls.{State, fresh, Call, pass, submit, checked, submitted, Step, lentRight, called, notLent, passCall, passStep, call, answers, after}
+use Rattle.definition.specs.Calls.{State, Call, pass, submit, checked, submitted, Step, lentRight, called, notLent, passCall, passStep, call, answers, after}
 use Rattle.definition.specs.declared.Surface.{Surface}
 use Rattle.laws.proofs.Verdicts.{then-left}
 use Rattle.laws.specs.Records.{records}
@@ -28,18 +29,19 @@ use Rattle.render.proofs.Records.{take-padded}
 use Rattle.render.proofs.Outcome.{few-colors, outcome-refused, outcome-accepted}
 use Rattle.render.proofs.Reply.{attachments-most}
 use Rattle.desk.specs.declared.reply.Reply as C
-use Rattle.desk.specs.Entry.{numberIn}
+use Rattle.desk.specs.Entry.{Buffers, heldIn, tooShort, numberIn, entry, Opened}
 use Rattle.desk.specs.Reply.{answered}
-use Rattle.desk.proofs.Calls.{entry-call, lent-accepts}
+use Rattle.desk.specs.Promise.{LengthsStay}
+use Rattle.desk.proofs.Calls.{entry-call, entry-called}
 use Rattle.noninterference.specs.Memory.{events, byteOf, loaded, cells}
-use Rattle.noninterference.specs.Claim.{submittedFrom, lastUse, kept, Agree, Hidden}
+use Rattle.noninterference.specs.Claim.{Fresh, submittedFrom, lastUse, kept, Agree, Hidden}
 use Rattle.noninterference.proofs.Theorem.{demand-three, first-answers, never-six}
-use Rattle.desk.specs.EntryPoints.Run.{Buffers, heldIn, Fresh, Told, ofPass, ofSubmit, callOf, Turn, entryOf, Says, Promised, Run, callsOf, buffersAfter, readIn, answersIn}
+use Rattle.desk.specs.EntryPoints.Run.{FreshBuffers, Told, ofPass, ofSubmit, callOf, Promised, Turn, Run, callsOf, buffersAfter, readIn, answersIn}
 use Rattle.desk.specs.EntryPoints.Theorem.{DemandThreeOfCalls, NeverSixOfCalls}
 
 -- ── what a reply tells
 
--- A reply fits its seventeen records, and its clears are the first of the list of clears after it.
+-- A reply fits its records, and its clears are the first of the list of clears after it.
 record Legible (r : Reply) (l : Lists) : Type 0 where
   few : length (r .attachments) ≤ maxAttachments
   clears : take (length (r .clears)) (l .clears) ≡ r .clears
@@ -107,102 +109,115 @@ read-submit S σ n b e h = go (lentRight S σ) e h
     go true e h = λ q. submitted (e q) (h q .status)
     go false e h = λ q. submitted (e q) (h q .status)
 
-read-told : (S : Session) (σ : State) (t : Told) (b : Buffers) → Says t (call S (callOf t) σ .answer) → heldIn b ≡ call S (callOf t) σ .state
-    → readIn t b ≡ call S (callOf t) σ .answer
-read-told S σ (ofPass i q) b e h = read-pass S i σ q b e h
-read-told S σ (ofSubmit n) b e h = read-submit S σ n b e h
+-- ── what a promise gives
+
+module _ (s : List ℕ) where
+  -- The buffers then hold what the call leaves,
+  left-state : (b : Buffers) (t : Told) (b′ : Buffers) → Opened s b → Promised s b t b′ → heldIn b′ ≡ call (session s) (callOf t) (heldIn b) .state
+  left-state b (ofPass i r) b′ o p = p .state ∙ ap (λ (q : Step). q .state) (entry-call s (pass i) b o)
+  left-state b (ofSubmit n) b′ o p = p .state ∙ ap (λ (q : Step). q .state) (entry-call s submit b o)
+
+  -- a caller reads what it answers,
+  left-read : (b : Buffers) (t : Told) (b′ : Buffers) → Opened s b → Promised s b t b′ → readIn t b′ ≡ call (session s) (callOf t) (heldIn b) .answer
+  left-read b (ofPass i r) b′ o p =
+      read-pass (session s) i (heldIn b) r b′ (p .reply ∙ ap (λ (q : Step). answered (q .answer)) (entry-call s (pass i) b o)) (left-state b (ofPass i r) b′ o p)
+  left-read b (ofSubmit n) b′ o p =
+      read-submit (session s) (heldIn b) n b′ (p .number ∙ ap (λ (q : Step). numberIn (q .answer)) (entry-call s submit b o)) (left-state b (ofSubmit n) b′ o p)
+
+  -- and the buffers are as long as before.
+  as-long : (b b′ : Buffers) → LengthsStay (b .lists) (b′ .lists) → length (b′ .status) ≡ length (b .status) → tooShort b′ ≡ tooShort b
+  unfolding short
+  as-long b b′ h e =
+      λ q. ltb (h .discards q) discardsBytes || ltb (h .actions q) actionsBytes || ltb (h .clears q) clearsBytes || ltb (e q) maxSurfaces
+
+  left-long : (b : Buffers) (t : Told) (b′ : Buffers) → Promised s b t b′ → tooShort b′ ≡ tooShort b
+  left-long b (ofPass i r) b′ p = as-long b b′ (p .lengths) (ap length (p .status))
+  left-long b (ofSubmit n) b′ p = as-long b b′ (p .lengths) (p .bytes)
 
 -- ── call after call
 
-abbrev Long : Buffers → Type 0
-Long b = short (b .discards) (b .actions) (b .clears) (b .status) ≡ false
-
-long-after : (s : List ℕ) (b : Buffers) (t : Turn) → Promised s b t → Long b → Long (t .left)
-unfolding short
-long-after s b t p h =
-    (λ q. ltb (p .discards q) discardsBytes || ltb (p .actions q) actionsBytes || ltb (p .clears q) clearsBytes || ltb (p .status q) maxSurfaces) ∙ h
-
 -- A run follows the definition's calls.
-record Follows (s : List ℕ) (b : Buffers) (ts : List Turn) (σ : State) : Type 0 where
-  answered : answersIn ts ≡ answers (session s) (callsOf ts) σ
-  states : (n : ℕ) → heldIn (buffersAfter b ts n) ≡ after (session s) (take n (callsOf ts)) σ
-  long : (n : ℕ) → Long (buffersAfter b ts n)
+record Follows (s : List ℕ) (b : Buffers) (ts : List Turn) : Type 0 where
+  answered : answersIn ts ≡ answers (session s) (callsOf ts) (heldIn b)
+  states : (n : ℕ) → heldIn (buffersAfter b ts n) ≡ after (session s) (take n (callsOf ts)) (heldIn b)
+  opened : (n : ℕ) → Opened s (buffersAfter b ts n)
 
-module _ (s : List ℕ) (ok : sessionRefusal s ≡ 0) where
-  follows-none : (b : Buffers) (σ : State) → Long b → heldIn b ≡ σ → Follows s b [] σ
-  follows-none b σ h e = record { answered = refl; states = none; long = still }
+module _ (s : List ℕ) where
+  follows-none : (b : Buffers) → Opened s b → Follows s b []
+  follows-none b o = record { answered = refl; states = none; opened = still }
     where
-      none : (n : ℕ) → heldIn (buffersAfter b [] n) ≡ after (session s) (take n []) σ
-      none zero = e
-      none (suc n) = e
+      none : (n : ℕ) → heldIn (buffersAfter b [] n) ≡ after (session s) (take n []) (heldIn b)
+      none zero = refl
+      none (suc n) = refl
 
-      still : (n : ℕ) → Long (buffersAfter b [] n)
-      still zero = h
-      still (suc n) = h
+      still : (n : ℕ) → Opened s (buffersAfter b [] n)
+      still zero = o
+      still (suc n) = o
 
   -- One call, and then the rest from what it leaves.
-  module _ (t : Turn) (ts : List Turn) (b : Buffers) (σ : State) (h : Long b) (e : heldIn b ≡ σ) (p : Promised s b t) where
-    abbrev k : Call
-    k = callOf (t .told)
+  follows-call : (t : Turn) (ts : List Turn) (b : Buffers) → Opened s b → Promised s b (t .told) (t .left) → Follows s (t .left) ts → Follows s b (t ∷ ts)
+  follows-call t ts b o p rest = record { answered = λ q. here q ∷ later q; states = states; opened = opened }
+    where
+      k : Call
+      k = callOf (t .told)
 
-    step : entryOf s k b ≡ call (session s) k σ
-    step = entry-call s k (b .discards) (b .actions) (b .clears) (b .status) h ok ∙ ap (call (session s) k) e
+      left : heldIn (t .left) ≡ call (session s) (callOf (t .told)) (heldIn b) .state
+      left = left-state s b (t .told) (t .left) o p
 
-    left : heldIn (t .left) ≡ call (session s) k σ .state
-    left = p .leaves ∙ ap (λ (q : Step). q .state) step
+      here : readIn (t .told) (t .left) ≡ call (session s) (callOf (t .told)) (heldIn b) .answer
+      here = left-read s b (t .told) (t .left) o p
 
-    here : readIn (t .told) (t .left) ≡ call (session s) k σ .answer
-    here = read-told (session s) σ (t .told) (t .left) (subst (λ (q : Step). Says (t .told) (q .answer)) step (p .says)) left
+      later : answersIn ts ≡ answers (session s) (callsOf ts) (call (session s) (callOf (t .told)) (heldIn b) .state)
+      later = rest .answered ∙ ap (answers (session s) (callsOf ts)) left
 
-    follows-call : Follows s (t .left) ts (call (session s) k σ .state) → Follows s b (t ∷ ts) σ
-    follows-call rest = record { answered = λ q. here q ∷ rest .answered q; states = states; long = long }
-      where
-        states : (n : ℕ) → heldIn (buffersAfter b (t ∷ ts) n) ≡ after (session s) (take n (k ∷ callsOf ts)) σ
-        states zero = e
-        states (suc n) = rest .states n
+      states : (n : ℕ) → heldIn (buffersAfter b (t ∷ ts) n) ≡ after (session s) (take n (callsOf (t ∷ ts))) (heldIn b)
+      states zero = refl
+      states (suc n) = rest .states n ∙ ap (after (session s) (take n (callsOf ts))) left
 
-        long : (n : ℕ) → Long (buffersAfter b (t ∷ ts) n)
-        long zero = h
-        long (suc n) = rest .long n
+      opened : (n : ℕ) → Opened s (buffersAfter b (t ∷ ts) n)
+      opened zero = o
+      opened (suc n) = rest .opened n
 
-  follows : (ts : List Turn) (b : Buffers) (σ : State) → Long b → heldIn b ≡ σ → Run s b ts → Follows s b ts σ
-  follows [] b σ h e r = follows-none b σ h e
-  follows (t ∷ ts) b σ h e r =
-      follows-call t ts b σ h e (r .0)
-      (follows ts (t .left) (call (session s) (callOf (t .told)) σ .state) (long-after s b t (r .0) h) (left t ts b σ h e (r .0)) (r .1))
+  follows : (ts : List Turn) (b : Buffers) → Opened s b → Run s b ts → Follows s b ts
+  follows [] b o r = follows-none b o
+  follows (t ∷ ts) b o r =
+      follows-call t ts b o (r .0)
+      (follows ts (t .left) (record { long = left-long s b (t .told) (t .left) (r .0) ∙ o .long; readable = o .readable }) (r .1))
 
--- Fresh buffers hold the fresh state.
-fresh-held : (b : Buffers) → Fresh b → heldIn b ≡ fresh
+-- ── fresh buffers
+
+-- They hold a fresh state.
+fresh-held : (s : List ℕ) (b : Buffers) → FreshBuffers s b → Fresh (session s) (heldIn b)
 unfolding records
-fresh-held b h = λ q. record {
-  lists = record {
-    discards = ap (λ (n : ℕ). surfaces n (numbersAt (b .discards) 4 (surfaceNumbers * n))) (h .discards) q;
-    actions = ap (λ (n : ℕ). actions n (numbersAt (b .actions) 4 (actionNumbers * n))) (h .actions) q;
-    clears = ap (λ (n : ℕ). surfaces n (numbersAt (b .clears) 4 (surfaceNumbers * n))) (h .clears) q;
+fresh-held s b h = record {
+  lists = λ q. record {
+    discards = ap (λ (n : ℕ). surfaces n (numbersAt (b .lists .discards) countBytes (surfaceNumbers * n))) (h .discards) q;
+    actions = ap (λ (n : ℕ). actions n (numbersAt (b .lists .actions) countBytes (actionNumbers * n))) (h .actions) q;
+    clears = ap (λ (n : ℕ). surfaces n (numbersAt (b .lists .clears) countBytes (surfaceNumbers * n))) (h .clears) q;
   };
-  status = h .status q;
+  status = h .status;
 }
 
-from-fresh : (s : List ℕ) → sessionRefusal s ≡ 0 → (b : Buffers) → Fresh b → (ts : List Turn) → Run s b ts → Follows s b ts fresh
-from-fresh s ok b h ts r = follows s ok ts b fresh (h .long) (fresh-held b h) r
+from-fresh : (s : List ℕ) → sessionRefusal s ≡ 0 → (b : Buffers) → FreshBuffers s b → (ts : List Turn) → Run s b ts → Follows s b ts
+from-fresh s ok b h ts r = follows s ts b (record { long = h .long; readable = ok }) r
 
 -- ── the theorems
 
 pub never-six-of-calls : NeverSixOfCalls
 never-six-of-calls s ok b h ts r n k =
     let run = from-fresh s ok b h ts r in
-    let β : Buffers = buffersAfter b ts n in
-    entry-call s k (β .discards) (β .actions) (β .clears) (β .status) (run .long n) ok
-    ∙ lent-accepts s k (β .discards) (β .actions) (β .clears) (β .status) (ap (lentRight (session s)) (run .states n) ∙ never-six s ok (take n (callsOf ts)))
+    entry-called s k (buffersAfter b ts n) (run .opened n)
+    (ap (lentRight (session s)) (run .states n) ∙ never-six s ok (heldIn b) (fresh-held s b h) (take n (callsOf ts)))
 
 pub demand-three-of-calls : DemandThreeOfCalls
 demand-three-of-calls s ok st single flat b h ts r Val D c c′ =
     let run = from-fresh s ok b h ts r in
     let S : Session = session s in
+    let σ : State = heldIn b in
     let calls : List Call = callsOf ts in
-    let claim : Hidden D c c′ S calls = demand-three s ok st single flat Val D c c′ calls in
-    let first : (n : ℕ) → take n (answersIn ts) ≡ answers S (take n calls) fresh = λ n. ap (take n) (run .answered) ∙ sym (first-answers S calls fresh n) in
-    let bytes : (n : ℕ) → buffersAfter b ts n .status ≡ after S (take n calls) fresh .status = λ n. ap (λ (τ : State). τ .status) (run .states n) in
+    let claim : Hidden D c c′ S σ calls = demand-three s ok st single flat Val D c c′ σ (fresh-held s b h) calls in
+    let first : (n : ℕ) → take n (answersIn ts) ≡ answers S (take n calls) σ = λ n. ap (take n) (run .answered) ∙ sym (first-answers S calls σ n) in
+    let bytes : (n : ℕ) → buffersAfter b ts n .status ≡ after S (take n calls) σ .status = λ n. ap (λ (τ : State). τ .status) (run .states n) in
     record {
       loads = (λ q. loaded D (c .left) S (events S 0 (run .answered q)) [] (c .first)) ∙ claim .loads ∙ sym (λ q. loaded D (c′ .left) S (events S 0 (run .answered q)) [] (c′ .first));
       marks = λ n x i. ap (λ l. filled (byteOf S l x)) (bytes n) ∙ claim .marks n x i ∙ sym (λ q. kept (lastUse none (submittedFrom (events S 0 (first n q)) [] []) x));

@@ -1,14 +1,11 @@
 -- By what refuses the pass: its check, the room for the actions that it adds, or nothing.
-use mathlib.Core.Path.{sym, ap, _∙_}
+use mathlib.Core.Path.{sym, _∙_}
 use native.Mathlib.Omega.{arith}
 use Prim.Native.Nat.{_≤_}
 use borrow.Author.Needs.{needs}
 use borrow.Author.Tests.{not-true, not-false}
-use Rattle.definition.specs.Sizes.{surfaceNumbers, maxAdded}
-use Rattle.records.specs.Lent.{decodeSurface}
-use Rattle.memory_init.specs.declared.Counts.{Counts}
-use Rattle.lent.proofs.Packing.{unpacked-all}
-use Rattle.desk.proofs.Passed.{added-few, passed-refused, passed-full, passed-accepted}
+use Rattle.definition.specs.Sizes.{maxAdded}
+use Rattle.desk.proofs.Passed.{added-few, checked-refused, checked-full, checked-accepted}
 use Rattle.desk.proofs.check_lent.Statement.{statement}
 use Rattle.desk.proofs.check_lent.Tie as tie
 
@@ -21,7 +18,7 @@ unpacked k = k .before .before .before .before .before
 
 -- Few actions are added.
 few : (k : tie.After-check-pass) → k .check-pass .result .counts .actions ≤ maxAdded
-few k = added-few _ _ (start k .args .n) (k .check-pass .result) _ _ _ _ _ _ (k .check-pass .ensures) (start k .pre .0 .1 .0 .discards)
+few k = added-few _ _ (start k .args .n) (k .check-pass .result) _ _ _ _ _ _ (k .check-pass .ensures) (start k .pre .within .discards)
 
 slice-aggregate-unpack : tie.Need-slice-aggregate-unpack
 slice-aggregate-unpack c = search needs
@@ -53,13 +50,13 @@ same-length c = search needs
 returns : tie.Need-returns
 returns c =
     let k = c .before .before .before .before .before .before in
-    λ b h. passed-refused _ _ _ _ _ b _ (start k .args .n) (k .check-pass .result) _ _ _ _ _ _ h (start k .pre .0 .1 .1) (start k .pre .0 .0) (unpacked-all surfaceNumbers decodeSurface _ _ _ (ap (λ (q : Counts). q .discards) (start k .pre .0 .0)) (unpacked k .unpack .ensures)) (k .check-pass .ensures)
+    checked-refused _ _ _ _ _ _ _ _ _ _ (k .check-pass .ensures) _ _ (start k .pre) (unpacked k .unpack .ensures)
     (sym (c .before .before .is-fine .ensures) ∙ not-true (c .before .before .is-fine .result) (c .before .if1 .taken)) (c .numbered .ensures)
 
 add-if2 : tie.Need-add-if2
 add-if2 c =
     let k = c .before .before .before .before .before .before .before .before in
-    omega (arith, start k .pre .0 .1 .0 .actions, few k)
+    omega (arith, start k .pre .within .actions, few k)
 
 refused-reply-requires : tie.Need-refused-reply-requires
 refused-reply-requires c κs = search needs
@@ -71,7 +68,7 @@ returns-2 : tie.Need-returns-2
 returns-2 c =
     let k = c .before .before .before .before .before .before .before .before .before .before in
     let fine = c .before .before .before .before .before .before .is-fine in
-    λ b h. passed-full _ _ _ _ _ b _ (start k .args .n) (k .check-pass .result) _ _ _ _ _ _ h (start k .pre .0 .1 .1) (start k .pre .0 .0) (unpacked-all surfaceNumbers decodeSurface _ _ _ (ap (λ (q : Counts). q .discards) (start k .pre .0 .0)) (unpacked k .unpack .ensures)) (k .check-pass .ensures)
+    checked-full _ _ _ _ _ _ _ _ _ _ (k .check-pass .ensures) _ _ (start k .pre) (unpacked k .unpack .ensures)
     (sym (fine .ensures) ∙ not-false (fine .result) (c .before .before .before .before .before .if1 .left)) (omega (arith, c .before .if2 .taken)) (c .refused-reply .ensures)
 
 slice-aggregate-pack-lent : tie.Need-slice-aggregate-pack-lent
@@ -86,8 +83,9 @@ slice-aggregate-pack-lent-3 c = search needs
 pack-lent-requires : tie.Need-pack-lent-requires
 pack-lent-requires c κs =
     let k = c .before .before .before .before .before .before .before .before .before .before .before .before .before .before .before in
-    let there = k .check-pass .ensures .within (record { discards = start k .pre .0 .1 .0 .discards; actions = omega arith; clears = omega arith }) in
-    ((there .discards, (omega (arith, c .before .before .before .before .before .before .if2 .left), there .clears)), (start k .pre .1, (omega (arith, there .discards), (omega (arith, few k), omega (arith, there .clears)))))
+    let there = k .check-pass .ensures .within (record { discards = start k .pre .within .discards; actions = omega arith; clears = omega arith }) in
+    let asked = start k .pre in
+    ((there .discards, (omega (arith, c .before .before .before .before .before .before .if2 .left), there .clears)), ((asked .discards, (asked .actions, asked .clears)), (omega (arith, there .discards), (omega (arith, few k), omega (arith, there .clears)))))
 
 numbered-requires-2 : tie.Need-numbered-requires-2
 numbered-requires-2 c κs = search needs
@@ -106,8 +104,9 @@ returns-3 c =
     let k = c .before .before .before .before .before .before .before .before .before .before .before .before .before .before .before .before .before .before .before .before .before .before .before in
     let packed = c .before .before .before .before .before .before .before .pack-lent .ensures in
     let fine = c .before .before .before .before .before .before .before .before .before .before .before .before .before .before .before .before .before .before .before .is-fine in
-    λ b h. passed-accepted _ _ _ _ _ b _ (start k .args .n) (k .check-pass .result) _ _ _ _ _ _ h (start k .pre .0 .1 .1) (start k .pre .0 .0) (unpacked-all surfaceNumbers decodeSurface _ _ _ (ap (λ (q : Counts). q .discards) (start k .pre .0 .0)) (unpacked k .unpack .ensures)) (k .check-pass .ensures)
-    _ _ _ (sym (fine .ensures) ∙ not-false (fine .result) (c .before .before .before .before .before .before .before .before .before .before .before .before .before .before .before .before .before .before .if1 .left)) (omega (arith, c .before .before .before .before .before .before .before .before .before .before .before .before .before .before .if2 .left)) (c .numbered2 .ensures) (packed .0) (packed .1 .0) (packed .1 .1)
+    checked-accepted _ _ _ _ _ _ _ _ _ _ (k .check-pass .ensures) _ _ (start k .pre) (unpacked k .unpack .ensures) _
+    (sym (fine .ensures) ∙ not-false (fine .result) (c .before .before .before .before .before .before .before .before .before .before .before .before .before .before .before .before .before .before .if1 .left)) (omega (arith, c .before .before .before .before .before .before .before .before .before .before .before .before .before .before .if2 .left)) (c .numbered2 .ensures) (packed .0) (packed .1 .0) (packed .1 .1)
+    (record { discards = same-length-3 c; actions = same-length-4 c; clears = same-length-5 c })
 
 pub check-lent-spec : {M : Type 1} → statement M
 check-lent-spec =

@@ -1,17 +1,28 @@
 -- What is lent is judged, then the pass's number, then the pass.
 use mathlib.Core.Path.{_≡_, sym, _∙_}
 use mathlib.Core.Bool.{true}
+use Prim.Native.Nat.{_<_}
 use native.Mathlib.Omega.{arith}
 use borrow.Author.Needs.{needs}
 use borrow.Author.Tests.{not-true, not-false}
+use Rattle.definition.specs.Session.{session}
 use Rattle.lent.proofs.Packing.{not-short}
-use Rattle.desk.proofs.Passed.{passed-not-lent, passed-none}
+use Rattle.lent.specs.Judged.{rightIn}
+use Rattle.noninterference.proofs.Theorem.{readable}
+use Rattle.desk.proofs.Passed.{passed-not-lent, passed-none, passed-checked}
 use Rattle.desk.proofs.pass_lent.Statement.{statement}
 use Rattle.desk.proofs.pass_lent.Tie as tie
 
+-- Where what is lent is judged: the start.
+abbrev start : tie.After-judge-lent → tie.Start
+start j = j .before .before .before .before .before .before .before .before .before
+
 -- What is lent is right.
-right : (c : tie.Else1) → c .before .before .judge-lent .result .right ≡ true
-right c = not-false (c .before .before .judge-lent .result .right) (c .if1 .left)
+abbrev judged : tie.Else1 → tie.After-judge-lent
+judged c = c .before .before
+
+right : (c : tie.Else1) → rightIn (start (judged c) .args .session .now) (start (judged c) .args .discards .now) (start (judged c) .args .actions .now) (start (judged c) .args .clears .now) (start (judged c) .args .status .now) ≡ true
+right c = sym (judged c .judge-lent .ensures .decided) ∙ not-false (judged c .judge-lent .result .right) (c .if1 .left)
 
 judge-lent-requires : tie.Need-judge-lent-requires
 judge-lent-requires c κs = search needs
@@ -30,8 +41,8 @@ same-length-3 c = search needs
 
 returns : tie.Need-returns
 returns c =
-    let lent = c .before .before .before .judge-lent in
-    passed-not-lent _ _ _ _ _ _ _ (sym (lent .ensures .decided) ∙ not-true (lent .result .right) (c .before .if1 .taken)) (c .refused-reply .ensures)
+    let at = c .before .before .before in
+    passed-not-lent _ _ _ _ (start at .pre) (sym (at .judge-lent .ensures .decided) ∙ not-true (at .judge-lent .result .right) (c .before .if1 .taken)) (c .refused-reply .ensures)
 
 pass-count-requires : tie.Need-pass-count-requires
 pass-count-requires c κs = search needs
@@ -50,16 +61,28 @@ same-length-6 c = search needs
 
 returns-2 : tie.Need-returns-2
 returns-2 c =
-    let judged = c .before .before .before in
-    passed-none _ _ _ _ _ _ _ (sym (judged .before .before .judge-lent .ensures .decided) ∙ right judged)
-    (omega (arith, c .before .if2 .taken, c .before .before .pass-count .ensures)) (c .refused-reply2 .ensures)
+    let lent = c .before .before .before in
+    passed-none _ _ _ _ (start (judged lent) .pre) (right lent) (omega (arith, c .before .if2 .taken, c .before .before .pass-count .ensures)) (c .refused-reply2 .ensures)
+
+-- The session has the pass.
+there : (c : tie.Else2) → start (judged (c .before .before)) .args .i < session (start (judged (c .before .before)) .args .session .now) .passCount
+there c = omega (arith, c .if2 .left, c .before .pass-count .ensures)
 
 check-lent-requires : tie.Need-check-lent-requires
 check-lent-requires c κs =
-    let judged = c .before .before .before .before .before .before in
-    let lent = judged .before .before .judge-lent .ensures in
-    let long = not-short _ _ _ _ (judged .before .before .before .before .before .before .before .before .before .before .before .pre .0) in
-    ((lent .counts, (lent .within (right judged), omega (arith, c .before .before .before .before .if2 .left, c .before .before .before .before .before .pass-count .ensures))), (long .discards, (long .actions, long .clears)))
+    let lent = c .before .before .before .before .before .before in
+    let said = judged lent .judge-lent in
+    let asked = start (judged lent) .pre in
+    let long = not-short _ _ _ _ (asked .long) in
+    record {
+      views = readable _ (asked .readable) .views;
+      there = there (c .before .before .before .before);
+      counts = said .ensures .counts;
+      within = said .ensures .within (not-false (said .result .right) (lent .if1 .left));
+      discards = long .discards;
+      actions = long .actions;
+      clears = long .clears;
+    }
 
 same-length-7 : tie.Need-same-length-7
 same-length-7 c = search needs
@@ -72,8 +95,9 @@ same-length-9 c = search needs
 
 returns-3 : tie.Need-returns-3
 returns-3 c =
-    let judged = c .before .before .before .before .before .before .before .before .before .before .before .before .before in
-    c .before .before .before .before .before .before .check-lent .ensures _ (sym (judged .before .before .judge-lent .ensures .decided) ∙ right judged)
+    let made = c .before .before .before .before .before .before in
+    let lent = made .before .before .before .before .before .before .before in
+    passed-checked _ _ _ _ _ (start (judged lent) .pre) (right lent) (there (made .before .before .before .before .before)) (made .check-lent .ensures)
 
 pub pass-lent-spec : {M : Type 1} → statement M
 pass-lent-spec =

@@ -1,5 +1,5 @@
 -- What is lent is judged; what is unpacked holds the discards and actions of the bytes, so that the submission and the counts written after it are the definition's.
-use mathlib.Core.Path.{_≡_, sym, ap, _∙_}
+use mathlib.Core.Path.{_≡_, refl, sym, ap, _∙_}
 use mathlib.Core.Bool.{true}
 use native.Mathlib.Omega.{arith}
 use native.Mathlib.Nat.{le-refl}
@@ -29,7 +29,7 @@ abbrev start : tie.Else1 → tie.Start
 start c = c .before .before .before .before .before .before .before .before .before .before .before
 
 long : (c : tie.Else1) → Long (start c .args .discards .now) (start c .args .actions .now) (start c .args .clears .now) (start c .args .status .now)
-long c = not-short _ _ _ _ (start c .pre .0)
+long c = not-short _ _ _ _ (start c .pre .long)
 
 judge-lent-requires : tie.Need-judge-lent-requires
 judge-lent-requires c κs = search needs
@@ -46,7 +46,7 @@ same-length-3 c = search needs
 returns : tie.Need-returns
 returns c =
     let lent = c .before .before .judge-lent in
-    sent-not-lent _ _ _ _ _ (sym (lent .ensures .decided) ∙ not-true (lent .result .right) (c .if1 .taken))
+    sent-not-lent _ _ _ (c .before .before .before .before .before .before .before .before .before .before .before .pre) (sym (lent .ensures .decided) ∙ not-true (lent .result .right) (c .if1 .taken)) refl
 
 slice-aggregate-unpack : tie.Need-slice-aggregate-unpack
 slice-aggregate-unpack c = search needs
@@ -78,7 +78,7 @@ submit-requires c κs =
     right-submits _ (stateIn (args .discards .now) (args .actions .now) (args .clears .now) (args .status .now)) _ _ _ _ (sym (lent .decided) ∙ right judged)
     (sym (unpacked-all surfaceNumbers decodeSurface _ _ _ (ap (λ (q : Counts). q .discards) (lent .counts)) (c .before .before .before .before .before .before .before .before .unpack .ensures)))
     (sym (unpacked-all actionNumbers decodeAction _ _ _ (ap (λ (q : Counts). q .actions) (lent .counts)) (c .before .before .before .before .unpack2 .ensures)))
-    (valid-of _ (start judged .pre .1) .textures) (valid-of _ (start judged .pre .1) .surfaces _ (le-refl _)) (long judged .status)
+    (valid-of _ (start judged .pre .readable) .textures) (valid-of _ (start judged .pre .readable) .surfaces _ (le-refl _)) (long judged .status)
     (omega (arith, counts judged .discards)) (omega (arith, counts judged .actions))
 
 put-u32-requires : tie.Need-put-u32-requires
@@ -100,10 +100,11 @@ returns-2 : tie.Need-returns-2
 returns-2 c =
     let judged = c .before .before .before .before .before .before .before .before .before .before .before .before .before .before .before .before .before .before .before .before .before .before .before in
     let lent = judged .before .before .judge-lent .ensures in
-    sent-all _ _ _ _ _ (judged .before .before .judge-lent .result .counts) _ _ _ _ _ (sym (lent .decided) ∙ right judged) (omega (arith, long judged .discards)) (omega (arith, long judged .actions))
+    sent-all _ _ _ _ _ _ _ _ (judged .before .before .judge-lent .result .counts) _ _ (start judged .pre) (sym (lent .decided) ∙ right judged) (omega (arith, long judged .discards)) (omega (arith, long judged .actions))
     (unpacked-all surfaceNumbers decodeSurface _ _ _ (ap (λ (q : Counts). q .discards) (lent .counts)) (c .before .before .before .before .before .before .before .before .before .before .before .before .before .before .before .before .before .before .before .unpack .ensures))
     (unpacked-all actionNumbers decodeAction _ _ _ (ap (λ (q : Counts). q .actions) (lent .counts)) (c .before .before .before .before .before .before .before .before .before .before .before .before .before .before .before .unpack2 .ensures))
     (c .before .before .before .before .before .before .put-u32 .ensures) (c .before .before .put-u322 .ensures) (c .before .before .before .before .before .before .before .before .before .before .submit .ensures .0)
+    (same-length-4 c) (same-length-5 c) (same-length-6 c)
 
 pub submit-lent-spec : {M : Type 1} → statement M
 submit-lent-spec =

@@ -4,34 +4,24 @@ use mathlib.Core.Path.{_≡_}
 use mathlib.Core.Bool.{false}
 use mathlib.Core.List.{List, [], _∷_}
 use lib.Dec.{eqb}
-use lib.ListN.{length, take, replicate}
-use Rattle.definition.specs.Sizes.{maxSurfaces}
-use Rattle.definition.specs.Calls.{State, Call, pass, submit, Answer, checked, submitted, Step}
+use lib.ListN.{take, replicate}
+use Rattle.definition.specs.Session.{session, surfaceCount}
+use Rattle.definition.specs.Calls.{Call, pass, submit, Answer, checked, submitted}
 use Rattle.lent.specs.Packed.{countIn}
-use Rattle.lent.specs.State.{surfacesIn, stateIn, short}
+use Rattle.lent.specs.State.{surfacesIn}
 use Rattle.desk.specs.declared.reply.Reply.{Reply}
-use Rattle.desk.specs.Entry.{numberIn, entry}
-use Rattle.desk.specs.Reply.{answered}
+use Rattle.desk.specs.Entry.{Buffers, tooShort}
+use Rattle.desk.specs.Promise.{PassPromise, SubmitPromise}
 
--- ── what a caller lends
+-- ── where a run starts
 
-pub record Buffers : Type 0 where
-  pub discards : List ℕ
-  pub actions : List ℕ
-  pub clears : List ℕ
-  pub status : List ℕ
-
--- What they hold.
-abbrev pub heldIn : Buffers → State
-heldIn b = stateIn (b .discards) (b .actions) (b .clears) (b .status)
-
--- Fresh buffers: long enough, no entries, 4096 status bytes of 0.
-pub record Fresh (b : Buffers) : Type 0 where
-  pub long : short (b .discards) (b .actions) (b .clears) (b .status) ≡ false
-  pub discards : countIn (b .discards) ≡ 0
-  pub actions : countIn (b .actions) ≡ 0
-  pub clears : countIn (b .clears) ≡ 0
-  pub status : b .status ≡ replicate maxSurfaces 0
+-- Buffers that are fresh for a session: long enough, no entries, and a status byte of 0 for each surface. All other bytes are anything.
+pub record FreshBuffers (s : List ℕ) (b : Buffers) : Type 0 where
+  pub long : tooShort b ≡ false
+  pub discards : countIn (b .lists .discards) ≡ 0
+  pub actions : countIn (b .lists .actions) ≡ 0
+  pub clears : countIn (b .lists .clears) ≡ 0
+  pub status : take (surfaceCount (session s)) (b .status) ≡ replicate (surfaceCount (session s)) 0
 
 -- ── one call
 
@@ -44,33 +34,21 @@ abbrev pub callOf : Told → Call
 callOf (ofPass i r) = pass i
 callOf (ofSubmit n) = submit
 
+-- What the function promises of the call.
+abbrev pub Promised : List ℕ → Buffers → Told → Buffers → Type 0
+Promised s b (ofPass i r) b′ = PassPromise s i b r b′
+Promised s b (ofSubmit n) b′ = SubmitPromise s b n b′
+
+-- ── call after call
+
 -- What is told, and the buffers after the call.
 pub record Turn : Type 0 where
   pub told : Told
   pub left : Buffers
 
-abbrev pub entryOf : List ℕ → Call → Buffers → Step
-entryOf s k b = entry s k (b .discards) (b .actions) (b .clears) (b .status)
-
--- The first promise of the functions: a reply is the entry's answer.
-abbrev pub Says : Told → Answer → Type 0
-Says (ofPass i r) x = r ≡ answered x
-Says (ofSubmit n) x = n ≡ numberIn x
-
--- What the functions promise of one call. (A lent slice keeps its length.)
-pub record Promised (s : List ℕ) (b : Buffers) (t : Turn) : Type 0 where
-  pub says : Says (t .told) (entryOf s (callOf (t .told)) b .answer)
-  pub leaves : heldIn (t .left) ≡ entryOf s (callOf (t .told)) b .state
-  pub discards : length (t .left .discards) ≡ length (b .discards)
-  pub actions : length (t .left .actions) ≡ length (b .actions)
-  pub clears : length (t .left .clears) ≡ length (b .clears)
-  pub status : length (t .left .status) ≡ length (b .status)
-
--- ── call after call
-
 abbrev pub Run : List ℕ → Buffers → List Turn → Type 0
 Run s b [] = Unit
-Run s b (t ∷ ts) = Promised s b t × Run s (t .left) ts
+Run s b (t ∷ ts) = Promised s b (t .told) (t .left) × Run s (t .left) ts
 
 abbrev pub callsOf : List Turn → List Call
 callsOf [] = []
@@ -82,7 +60,9 @@ buffersAfter b ts zero = b
 buffersAfter b [] (suc n) = b
 buffersAfter b (t ∷ ts) (suc n) = buffersAfter (t .left) ts n
 
--- What a caller reads in a reply, and in the buffers after it.
+-- ── what a caller reads
+
+-- In a reply, and in the buffers after it.
 abbrev pub readIn : Told → Buffers → Answer
 readIn (ofPass i r) b = checked (record {
   verdict = record { number = r .number; place = r .place; earlier = r .earlier };
@@ -93,7 +73,7 @@ readIn (ofPass i r) b = checked (record {
   stencilReadOnly = eqb (r .«stencil_read_only») 1;
   attachments = take (r .count) (r .attachments);
   divergent = r .divergent;
-  clears = take (r .clears) (surfacesIn (b .clears));
+  clears = take (r .clears) (surfacesIn (b .lists .clears));
 })
 readIn (ofSubmit n) b = submitted n (b .status)
 

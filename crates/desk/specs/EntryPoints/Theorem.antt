@@ -14,7 +14,8 @@ use Rattle.laws.specs.Surfaces.{Inside}
 use Rattle.noninterference.specs.Memory.{Cells, Drawing, Contents, events, byteOf, loaded, cells}
 use Rattle.noninterference.specs.Claim.{submittedFrom, lastUse, kept, Agree}
 use Rattle.noninterference.specs.Theorem.{OfStrictSessions}
-use Rattle.desk.specs.EntryPoints.Run.{Buffers, heldIn, Fresh, Turn, entryOf, Run, buffersAfter, answersIn}
+use Rattle.desk.specs.Entry.{Buffers, heldIn, entry}
+use Rattle.desk.specs.EntryPoints.Run.{FreshBuffers, Turn, Run, buffersAfter, answersIn}
 
 -- A surface's status byte after the first n calls.
 abbrev pub byteAfterCalls : List ℕ → Buffers → List Turn → ℕ → Surface → ℕ
@@ -40,10 +41,15 @@ pub record HiddenIn {Val : Type 0} (D : Drawing Val) (c c′ : Contents Val) (s 
 
 abbrev pub DemandThreeOfCalls : Type 1
 DemandThreeOfCalls =
-    OfStrictSessions (λ s. (b : Buffers) → Fresh b → (ts : List Turn) → Run s b ts → (Val : Type 0) (D : Drawing Val) (c c′ : Contents Val) → HiddenIn D c c′ s b ts)
+    OfStrictSessions (λ s.
+    (b : Buffers) → FreshBuffers s b
+    → (ts : List Turn) → Run s b ts
+    → (Val : Type 0) (D : Drawing Val) (c c′ : Contents Val) → HiddenIn D c c′ s b ts)
 
 -- From fresh buffers number 6 never arises: after any calls, every call is the definition's, of what is lent.
 abbrev pub NeverSixOfCalls : Type 0
 NeverSixOfCalls =
-    (s : List ℕ) → sessionRefusal s ≡ 0 → (b : Buffers) → Fresh b → (ts : List Turn) → Run s b ts
-    → (n : ℕ) (k : Call) → entryOf s k (buffersAfter b ts n) ≡ called (session s) k (heldIn (buffersAfter b ts n))
+    (s : List ℕ) → sessionRefusal s ≡ 0
+    → (b : Buffers) → FreshBuffers s b
+    → (ts : List Turn) → Run s b ts
+    → (n : ℕ) (k : Call) → entry s k (buffersAfter b ts n) ≡ called (session s) k (heldIn (buffersAfter b ts n))
