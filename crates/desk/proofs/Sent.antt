@@ -21,7 +21,7 @@ use Rattle.lent.specs.Packed.{countIn}
 use Rattle.lent.specs.State.{surfacesIn, actionsIn}
 use Rattle.lent.proofs.Numbers.{number-past}
 use Rattle.desk.specs.Entry.{Buffers, buffers, heldIn, tooShort, numberIn, entry, Opened}
-use Rattle.desk.specs.Promise.{LengthsStay, SubmitPromise}
+use Rattle.desk.specs.Promise.{SubmitPromise}
 use Rattle.desk.proofs.Calls.{entry-short, entry-refused, entry-called, entry-not-lent}
 
 -- ── a refusal

@@ -29,7 +29,7 @@ use Rattle.render.proofs.Records.{take-padded}
 use Rattle.render.proofs.Outcome.{few-colors, outcome-refused, outcome-accepted}
 use Rattle.render.proofs.Reply.{attachments-most}
 use Rattle.desk.specs.declared.reply.Reply as C
-use Rattle.desk.specs.Entry.{Buffers, heldIn, tooShort, numberIn, entry, Opened}
+use Rattle.desk.specs.Entry.{Buffers, heldIn, tooShort, numberIn, Opened}
 use Rattle.desk.specs.Reply.{answered}
 use Rattle.desk.specs.Promise.{LengthsStay}
 use Rattle.desk.proofs.Calls.{entry-call, entry-called}

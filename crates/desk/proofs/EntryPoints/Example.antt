@@ -1,0 +1,138 @@
+-- There are runs: document 01's example with the strict flag, pass 0, pass 1 and a submission, with the bytes that each call leaves,
+-- whatever stands in the buffers behind what is fresh.
+use Prim.Native.Nat.{ℕ, zero, suc, _<_}
+use native.Mathlib.Omega.{arith}
+use mathlib.Core.Path.{_≡_, refl, sym, ap}
+use mathlib.Core.Logic.{_≢_}
+use mathlib.Core.Bool.{false}
+use mathlib.Core.List.{List, [], _∷_, _++_}
+use lib.ListN.{replicate}
+use Rattle.definition.specs.Sizes.{actionsBytes}
+use Rattle.definition.specs.Session.{session}
+use Rattle.definition.specs.Calls.{pass, submit, Step, called}
+use Rattle.definition.specs.Computing.{computing}
+use Rattle.definition.specs.Files.{words, texture, view, slot, colors, file}
+use Rattle.laws.specs.Records.{recordAt, records}
+use Rattle.records.specs.Lent.{decodeSurface, decodeAction}
+use Rattle.lent.specs.Numbers.{numbersAt}
+use Rattle.lent.specs.State.{short}
+use Rattle.noninterference.specs.Memory.{Drawing, Contents}
+use Rattle.desk.specs.declared.reply.Reply.{Reply}
+use Rattle.desk.specs.Entry.{Buffers, buffers, heldIn, tooShort, numberIn}
+use Rattle.desk.specs.Reply.{answered}
+use Rattle.desk.specs.Promise.{PassPromise, SubmitPromise}
+use Rattle.desk.specs.EntryPoints.Run.{FreshBuffers, ofPass, ofSubmit, Turn, Run}
+use Rattle.desk.specs.EntryPoints.Theorem.{HiddenIn}
+use Rattle.desk.proofs.Calls.{entry-called}
+use Rattle.desk.proofs.EntryPoints.Theorem.{demand-three-of-calls}
+
+abbrev example : List ℕ
+example = file 8 0 1 (texture 3 2 4 1 1 1 16 ∷ []) (view 0 2 1 1 16 0 ∷ []) (colors (slot 0 1 1 ∷ []) ∷ colors (slot 0 0 0 ∷ []) ∷ [])
+
+-- Its one surface is 0 0 0. Pass 1 needs it, and registers again what it finds discarded.
+abbrev registered : List ℕ
+registered = (0 ∷ 0 ∷ 1 ∷ 0 ∷ 1 ∷ 1 ∷ []) ++ (0 ∷ 0 ∷ 1 ∷ 0 ∷ 1 ∷ 0 ∷ [])
+
+-- What stands where a call writes.
+abbrev nines : ℕ → List ℕ
+nines n = replicate n 9
+
+-- Behind that, x, y, z and w are anything.
+module _ (x y z w : List ℕ) where
+  abbrev first : Buffers
+  first = buffers (words (0 ∷ nines 3) ++ x) (words (0 ∷ nines 12) ++ y) (words (0 ∷ nines 3) ++ z) (0 ∷ w)
+
+  -- Pass 0 lists a discard.
+  abbrev second : Buffers
+  second = buffers (words (1 ∷ 0 ∷ 0 ∷ 0 ∷ []) ++ x) (words (0 ∷ nines 12) ++ y) (words (0 ∷ nines 3) ++ z) (0 ∷ w)
+
+  -- Pass 1 loads the surface: its discard is returned as a clear, and two actions are registered.
+  abbrev third : Buffers
+  third = buffers (words (0 ∷ 0 ∷ 0 ∷ 0 ∷ []) ++ x) (words (2 ∷ registered) ++ y) (words (1 ∷ 0 ∷ 0 ∷ 0 ∷ []) ++ z) (0 ∷ w)
+
+  -- The submission empties discards and actions, and the surface is cleared and filled.
+  abbrev last : Buffers
+  last = buffers (words (0 ∷ 0 ∷ 0 ∷ 0 ∷ []) ++ x) (words (0 ∷ registered) ++ y) (words (1 ∷ 0 ∷ 0 ∷ 0 ∷ []) ++ z) (3 ∷ w)
+
+  -- What the calls reply.
+  abbrev replyTo : ℕ → Buffers → Reply
+  replyTo i b = answered (called (session example) (pass i) (heldIn b) .answer)
+
+  abbrev turns : List Turn
+  turns =
+      record { told = ofPass 0 (replyTo 0 first); left = second }
+      ∷ record { told = ofPass 1 (replyTo 1 second); left = third }
+      ∷ record { told = ofSubmit 0; left = last }
+      ∷ []
+
+  module _ (long : tooShort first ≡ false) where
+    pub fresh : FreshBuffers example first
+    unfolding computing
+    fresh = record { long = long; discards = refl; actions = refl; clears = refl; status = refl }
+
+    pass-0 : PassPromise example 0 first (replyTo 0 first) second
+    unfolding computing decodeSurface decodeAction recordAt records numbersAt short
+    pass-0 =
+        let step = entry-called example (pass 0) first (record { long = long; readable = refl }) refl in
+        record {
+          reply = ap (λ (q : Step). answered (q .answer)) (sym step);
+          state = ap (λ (q : Step). q .state) (sym step);
+          refused = λ g. absurd (g refl);
+          rest = record { discards = refl; actions = refl; clears = refl };
+          lengths = record { discards = refl; actions = refl; clears = refl };
+          status = refl;
+        }
+
+    pass-1 : PassPromise example 1 second (replyTo 1 second) third
+    unfolding computing decodeSurface decodeAction recordAt records numbersAt short
+    pass-1 =
+        let step = entry-called example (pass 1) second (record { long = long; readable = refl }) refl in
+        record {
+          reply = ap (λ (q : Step). answered (q .answer)) (sym step);
+          state = ap (λ (q : Step). q .state) (sym step);
+          refused = λ g. absurd (g refl);
+          rest = record { discards = refl; actions = refl; clears = refl };
+          lengths = record { discards = refl; actions = refl; clears = refl };
+          status = refl;
+        }
+
+    submission : SubmitPromise example third 0 last
+    unfolding computing decodeSurface decodeAction recordAt records numbersAt short
+    submission =
+        let step = entry-called example submit third (record { long = long; readable = refl }) refl in
+        record {
+          number = ap (λ (q : Step). numberIn (q .answer)) (sym step);
+          state = ap (λ (q : Step). q .state) (sym step);
+          refused = λ g. absurd (g refl);
+          discards = refl;
+          actions = refl;
+          clears = refl;
+          lengths = record { discards = refl; actions = refl; clears = refl };
+          bytes = refl;
+        }
+
+    pub run : Run example first turns
+    run = (pass-0, (pass-1, (submission, tt)))
+
+    -- Both passes are accepted, and the second returns one clear.
+    pub told : (replyTo 0 first .number ∷ replyTo 0 first .clears ∷ replyTo 1 second .number ∷ replyTo 1 second .clears ∷ []) ≡ (0 ∷ 0 ∷ 0 ∷ 1 ∷ [])
+    unfolding computing decodeSurface decodeAction recordAt records numbersAt
+    told = refl
+
+    -- So the theorem speaks of it.
+    pub hidden : (Val : Type 0) (D : Drawing Val) (c c′ : Contents Val) → HiddenIn D c c′ example first turns
+    unfolding computing
+    hidden = demand-three-of-calls example refl refl single flat first fresh turns run
+      where
+        single : (k : ℕ) → k < session example .viewCount → session example .view k .layers ≡ 1
+        single zero h = refl
+        single (suc k) h = absurd (omega arith)
+
+        flat : (k : ℕ) → k < session example .textureCount → session example .texture k .dimension ≢ 3
+        flat zero h = λ e. omega arith
+        flat (suc k) h = absurd (omega arith)
+
+-- Buffers that are longer than they must be.
+pub longer : tooShort (first (nines actionsBytes) (nines actionsBytes) (nines actionsBytes) (nines actionsBytes)) ≡ false
+unfolding short
+longer = refl
