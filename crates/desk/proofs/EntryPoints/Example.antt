@@ -2,14 +2,14 @@
 -- whatever stands in the buffers behind what is fresh.
 use Prim.Native.Nat.{ℕ, zero, suc, _<_}
 use native.Mathlib.Omega.{arith}
-use mathlib.Core.Path.{_≡_, refl, sym, ap}
+use mathlib.Core.Path.{_≡_, refl, sym, ap, _∙_}
 use mathlib.Core.Logic.{_≢_}
-use mathlib.Core.Bool.{false}
+use mathlib.Core.Bool.{true, false}
 use mathlib.Core.List.{List, [], _∷_, _++_}
 use lib.ListN.{replicate}
 use Rattle.definition.specs.Sizes.{actionsBytes}
 use Rattle.definition.specs.Session.{session}
-use Rattle.definition.specs.Calls.{pass, submit, Step, called}
+use Rattle.definition.specs.Calls.{pass, submit, Step, lentRight, called}
 use Rattle.definition.specs.Computing.{computing}
 use Rattle.definition.specs.Files.{words, texture, view, slot, colors, file}
 use Rattle.laws.specs.Records.{recordAt, records}
@@ -18,9 +18,9 @@ use Rattle.lent.specs.Numbers.{numbersAt}
 use Rattle.lent.specs.State.{short}
 use Rattle.noninterference.specs.Memory.{Drawing, Contents}
 use Rattle.desk.specs.declared.reply.Reply.{Reply}
-use Rattle.desk.specs.Entry.{Buffers, buffers, heldIn, tooShort, numberIn}
+use Rattle.desk.specs.Entry.{Buffers, buffers, heldIn, tooShort, numberIn, Opened}
 use Rattle.desk.specs.Reply.{answered}
-use Rattle.desk.specs.Promise.{PassPromise, SubmitPromise}
+use Rattle.desk.specs.Promise.{RestsStay, LengthsStay, PassPromise, SubmitPromise}
 use Rattle.desk.specs.EntryPoints.Run.{FreshBuffers, ofPass, ofSubmit, Turn, Run}
 use Rattle.desk.specs.EntryPoints.Theorem.{HiddenIn}
 use Rattle.desk.proofs.Calls.{entry-called}
@@ -36,6 +36,24 @@ registered = (0 ∷ 0 ∷ 1 ∷ 0 ∷ 1 ∷ 1 ∷ []) ++ (0 ∷ 0 ∷ 1 ∷ 0 �
 -- What stands where a call writes.
 abbrev nines : ℕ → List ℕ
 nines n = replicate n 9
+
+-- What a pass check replies, and what it promises where it is accepted and the bytes after it are as they are computed.
+abbrev replyTo : ℕ → Buffers → Reply
+replyTo i b = answered (called (session example) (pass i) (heldIn b) .answer)
+
+accepted : (i : ℕ) (b b′ : Buffers) → Opened example b → lentRight (session example) (heldIn b) ≡ true → replyTo i b .number ≡ 0
+    → heldIn b′ ≡ called (session example) (pass i) (heldIn b) .state → RestsStay (b .lists) (b′ .lists) → LengthsStay (b .lists) (b′ .lists) → b′ .status ≡ b .status
+    → PassPromise example i b (replyTo i b) b′
+accepted i b b′ o h fine left rest lengths status =
+    let step = entry-called example (pass i) b o h in
+    record {
+      reply = ap (λ (q : Step). answered (q .answer)) (sym step);
+      state = left ∙ ap (λ (q : Step). q .state) (sym step);
+      refused = λ g. absurd (g fine);
+      rest = rest;
+      lengths = lengths;
+      status = status;
+    }
 
 -- Behind that, x, y, z and w are anything.
 module _ (x y z w : List ℕ) where
@@ -54,10 +72,6 @@ module _ (x y z w : List ℕ) where
   abbrev last : Buffers
   last = buffers (words (0 ∷ 0 ∷ 0 ∷ 0 ∷ []) ++ x) (words (0 ∷ registered) ++ y) (words (1 ∷ 0 ∷ 0 ∷ 0 ∷ []) ++ z) (3 ∷ w)
 
-  -- What the calls reply.
-  abbrev replyTo : ℕ → Buffers → Reply
-  replyTo i b = answered (called (session example) (pass i) (heldIn b) .answer)
-
   abbrev turns : List Turn
   turns =
       record { told = ofPass 0 (replyTo 0 first); left = second }
@@ -71,30 +85,16 @@ module _ (x y z w : List ℕ) where
     fresh = record { long = long; discards = refl; actions = refl; clears = refl; status = refl }
 
     pass-0 : PassPromise example 0 first (replyTo 0 first) second
-    unfolding computing decodeSurface decodeAction recordAt records numbersAt short
+    unfolding computing decodeSurface decodeAction recordAt records numbersAt
     pass-0 =
-        let step = entry-called example (pass 0) first (record { long = long; readable = refl }) refl in
-        record {
-          reply = ap (λ (q : Step). answered (q .answer)) (sym step);
-          state = ap (λ (q : Step). q .state) (sym step);
-          refused = λ g. absurd (g refl);
-          rest = record { discards = refl; actions = refl; clears = refl };
-          lengths = record { discards = refl; actions = refl; clears = refl };
-          status = refl;
-        }
+        accepted 0 first second (record { long = long; readable = refl }) refl refl refl (record { discards = refl; actions = refl; clears = refl })
+        (record { discards = refl; actions = refl; clears = refl }) refl
 
     pass-1 : PassPromise example 1 second (replyTo 1 second) third
     unfolding computing decodeSurface decodeAction recordAt records numbersAt short
     pass-1 =
-        let step = entry-called example (pass 1) second (record { long = long; readable = refl }) refl in
-        record {
-          reply = ap (λ (q : Step). answered (q .answer)) (sym step);
-          state = ap (λ (q : Step). q .state) (sym step);
-          refused = λ g. absurd (g refl);
-          rest = record { discards = refl; actions = refl; clears = refl };
-          lengths = record { discards = refl; actions = refl; clears = refl };
-          status = refl;
-        }
+        accepted 1 second third (record { long = long; readable = refl }) refl refl refl (record { discards = refl; actions = refl; clears = refl })
+        (record { discards = refl; actions = refl; clears = refl }) refl
 
     submission : SubmitPromise example third 0 last
     unfolding computing decodeSurface decodeAction recordAt records numbersAt short
