@@ -8,8 +8,7 @@ use lib.Dec.{eqb}
 use borrow.Author.Tests.{eq-eqb, ne-eqb}
 use Rattle.definition.specs.Session.{session}
 use Rattle.definition.specs.Readable.{sessionRefusal}
-use Rattle.definition.specs.Calls.{Call, noEntries, lentRight, called, notLent, call}
-use Rattle.definition.specs.Program.{lines, deskcheck}
+use Rattle.definition.specs.Calls.{Call, lentRight, called, notLent, call}
 use Rattle.laws.proofs.Tests.{cond-on, cond-off}
 use Rattle.desk.specs.Entry.{Buffers, heldIn, tooShort, refusedCall, entry, Opened}
 
@@ -34,8 +33,3 @@ module _ (s : List ℕ) (k : Call) (b : Buffers) where
   pub entry-not-lent : Opened s b → lentRight (session s) (heldIn b) ≡ false → entry s k b ≡ notLent k (heldIn b)
   unfolding call
   entry-not-lent h g = entry-call h ∙ cond-off (lentRight (session s) (heldIn b)) _ _ g
-
--- What `deskcheck` says of a session that is read.
-pub deskcheck-read : (s : List ℕ) → sessionRefusal s ≡ 0 → deskcheck s ≡ lines (session s) 0 (session s .passCount) noEntries
-unfolding deskcheck
-deskcheck-read s h = cond-on (eqb (sessionRefusal s) 0) _ _ (eq-eqb (sessionRefusal s) 0 h)

@@ -2,4 +2,5 @@
 pub mod Calls
 pub mod Passed
 pub mod Sent
+pub mod Whole
 pub mod EntryPoints

@@ -22,7 +22,7 @@ use Rattle.desk.specs.Reply.{numbered, answered}
 
 -- ── what stays
 
--- The bytes of a list past its records, which have k numbers each.
+-- The bytes past the records that a list then has, of k numbers each.
 abbrev pub RestStays : ℕ → List ℕ → List ℕ → Type 0
 RestStays k b b′ = drop (listBytes k (countIn b′)) b′ ≡ drop (listBytes k (countIn b′)) b
 
@@ -45,11 +45,11 @@ pub record PassPromise (s : List ℕ) (i : ℕ) (b : Buffers) (r : Reply) (b′ 
   pub reply : r ≡ answered (entry s (pass i) b .answer)
   -- and the buffers then hold its state.
   pub state : heldIn b′ ≡ entry s (pass i) b .state
-  -- A refusal leaves every byte;
+  -- A refusal leaves every byte.
   pub refused : r .number ≢ 0 → b′ ≡ b
-  -- an accepted pass leaves the bytes past the records of each list,
+  -- In any case the bytes past the records of each list stay,
   pub rest : RestsStay (b .lists) (b′ .lists)
-  -- the lengths, and the status bytes.
+  -- and the lengths, and the status bytes.
   pub lengths : LengthsStay (b .lists) (b′ .lists)
   pub status : b′ .status ≡ b .status
 
@@ -59,12 +59,12 @@ pub record SubmitPromise (s : List ℕ) (b : Buffers) (n : ℕ) (b′ : Buffers)
   pub number : n ≡ numberIn (entry s submit b .answer)
   -- and the buffers then hold its state.
   pub state : heldIn b′ ≡ entry s submit b .state
-  -- A refusal leaves every byte;
+  -- A refusal leaves every byte.
   pub refused : n ≢ 0 → b′ ≡ b
-  -- a submission writes no byte of discards and actions behind their counts,
+  -- In any case the bytes of discards and actions behind their counts stay,
   pub discards : drop countBytes (b′ .lists .discards) ≡ drop countBytes (b .lists .discards)
   pub actions : drop countBytes (b′ .lists .actions) ≡ drop countBytes (b .lists .actions)
-  -- no byte of the clears, and leaves the lengths.
+  -- and the clears, and the lengths.
   pub clears : b′ .lists .clears ≡ b .lists .clears
   pub lengths : LengthsStay (b .lists) (b′ .lists)
   pub bytes : length (b′ .status) ≡ length (b .status)

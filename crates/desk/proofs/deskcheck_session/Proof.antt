@@ -1,30 +1,22 @@
 -- Rows that are too short, a session that is refused, or the rows of one that is read.
-use mathlib.Core.Path.{refl, sym, _∙_}
+use mathlib.Core.Path.{sym, _∙_}
 use native.Mathlib.Omega.{arith}
 use borrow.Author.Needs.{needs}
-use borrow.Author.Tests.{lt-ltb, le-ltb}
-use Rattle.laws.proofs.Tests.{cond-on, cond-off}
-use Rattle.desk.proofs.Calls.{deskcheck-read}
+use Rattle.desk.proofs.Whole.{whole-short, whole-refused, whole-read}
 use Rattle.desk.proofs.deskcheck_session.Statement.{statement}
 use Rattle.desk.proofs.deskcheck_session.Tie as tie
 
 returns : tie.Need-returns
-returns c = record { number = sym (cond-on _ _ _ (lt-ltb _ _ (c .if1 .taken))); rows = λ h. absurd (omega (arith, h)); refused = λ _. refl }
+returns c = whole-short _ _ (omega (arith, c .if1 .taken))
 
 returns-2 : tie.Need-returns-2
-returns-2 c =
-    let refusal = c .before .session-refusal .ensures in
-    record { number = refusal ∙ sym (cond-off _ _ _ (le-ltb _ _ (c .before .before .if1 .left))); rows = λ h. absurd (c .if2 .taken h); refused = λ _. refl }
+returns-2 c = whole-refused _ _ _ (omega (arith, c .before .before .if1 .left)) (c .if2 .taken) (c .before .session-refusal .ensures)
 
 returns-3 : tie.Need-returns-3
 returns-3 c =
-    let read = sym (c .before .before .before .before .before .session-refusal .ensures) ∙ c .before .before .before .before .if2 .left in
+    let judged = c .before .before .before .before .before in
     let rows = c .before .before .session-rows .ensures in
-    record {
-      number = sym (cond-off _ _ _ (le-ltb _ _ (c .before .before .before .before .before .before .if1 .left)) ∙ read);
-      rows = λ _. record { lines = rows .0 ∙ sym (deskcheck-read _ read); rest = rows .1 };
-      refused = λ h. absurd (h refl);
-    }
+    whole-read _ _ _ (omega (arith, judged .before .if1 .left)) (sym (judged .session-refusal .ensures) ∙ c .before .before .before .before .if2 .left) (rows .0) (rows .1)
 
 pub deskcheck-session-spec : {M : Type 1} → statement M
 deskcheck-session-spec =

@@ -5,24 +5,35 @@ use Prim.Native.Nat.{_<_}
 use native.Mathlib.Omega.{arith}
 use borrow.Author.Needs.{needs}
 use borrow.Author.Tests.{not-true, not-false}
-use Rattle.definition.specs.Session.{session}
+use Rattle.definition.specs.Session.{Session, session}
+use Rattle.definition.specs.Calls.{lentRight}
 use Rattle.lent.proofs.Packing.{not-short}
-use Rattle.lent.specs.Judged.{rightIn}
 use Rattle.noninterference.proofs.Theorem.{readable}
+use Rattle.desk.specs.Entry.{Buffers, buffers, heldIn}
 use Rattle.desk.proofs.Passed.{passed-not-lent, passed-none, passed-checked}
 use Rattle.desk.proofs.pass_lent.Statement.{statement}
 use Rattle.desk.proofs.pass_lent.Tie as tie
 
--- Where what is lent is judged: the start.
+-- Where what is lent is judged: the start, the session, the buffers.
 abbrev start : tie.After-judge-lent → tie.Start
 start j = j .before .before .before .before .before .before .before .before .before
+
+abbrev S : tie.After-judge-lent → Session
+S j = session (start j .args .session .now)
+
+abbrev lent : tie.After-judge-lent → Buffers
+lent j = buffers (start j .args .discards .now) (start j .args .actions .now) (start j .args .clears .now) (start j .args .status .now)
 
 -- What is lent is right.
 abbrev judged : tie.Else1 → tie.After-judge-lent
 judged c = c .before .before
 
-right : (c : tie.Else1) → rightIn (start (judged c) .args .session .now) (start (judged c) .args .discards .now) (start (judged c) .args .actions .now) (start (judged c) .args .clears .now) (start (judged c) .args .status .now) ≡ true
+right : (c : tie.Else1) → lentRight (S (judged c)) (heldIn (lent (judged c))) ≡ true
 right c = sym (judged c .judge-lent .ensures .decided) ∙ not-false (judged c .judge-lent .result .right) (c .if1 .left)
+
+-- The session has the pass.
+there : (c : tie.Else2) → start (judged (c .before .before)) .args .i < S (judged (c .before .before)) .passCount
+there c = omega (arith, c .if2 .left, c .before .pass-count .ensures)
 
 judge-lent-requires : tie.Need-judge-lent-requires
 judge-lent-requires c κs = search needs
@@ -61,24 +72,20 @@ same-length-6 c = search needs
 
 returns-2 : tie.Need-returns-2
 returns-2 c =
-    let lent = c .before .before .before in
-    passed-none _ _ _ _ (start (judged lent) .pre) (right lent) (omega (arith, c .before .if2 .taken, c .before .before .pass-count .ensures)) (c .refused-reply2 .ensures)
-
--- The session has the pass.
-there : (c : tie.Else2) → start (judged (c .before .before)) .args .i < session (start (judged (c .before .before)) .args .session .now) .passCount
-there c = omega (arith, c .if2 .left, c .before .pass-count .ensures)
+    let at = c .before .before .before in
+    passed-none _ _ _ _ (start (judged at) .pre) (right at) (omega (arith, c .before .if2 .taken, c .before .before .pass-count .ensures)) (c .refused-reply2 .ensures)
 
 check-lent-requires : tie.Need-check-lent-requires
 check-lent-requires c κs =
-    let lent = c .before .before .before .before .before .before in
-    let said = judged lent .judge-lent in
-    let asked = start (judged lent) .pre in
+    let at = c .before .before .before .before .before .before in
+    let said = judged at .judge-lent in
+    let asked = start (judged at) .pre in
     let long = not-short _ _ _ _ (asked .long) in
     record {
       views = readable _ (asked .readable) .views;
       there = there (c .before .before .before .before);
       counts = said .ensures .counts;
-      within = said .ensures .within (not-false (said .result .right) (lent .if1 .left));
+      within = said .ensures .within (not-false (said .result .right) (at .if1 .left));
       discards = long .discards;
       actions = long .actions;
       clears = long .clears;
@@ -96,8 +103,8 @@ same-length-9 c = search needs
 returns-3 : tie.Need-returns-3
 returns-3 c =
     let made = c .before .before .before .before .before .before in
-    let lent = made .before .before .before .before .before .before .before in
-    passed-checked _ _ _ _ _ (start (judged lent) .pre) (right lent) (there (made .before .before .before .before .before)) (made .check-lent .ensures)
+    let at = made .before .before .before .before .before .before .before in
+    passed-checked _ _ _ _ _ (start (judged at) .pre) (right at) (there (made .before .before .before .before .before)) (made .check-lent .ensures)
 
 pub pass-lent-spec : {M : Type 1} → statement M
 pass-lent-spec =
