@@ -1,20 +1,24 @@
 // `deskcheck`: reads a session from standard input and prints its lines, or its refusal, to standard output.
 // Every input has an answer: what is longer than any session is counted to its end. Where reading or writing fails, a line on
 // standard error says so.
-use definition::sizes::LONGEST_SESSION;
+//
+// No contract can say what is read or written. What remains to be believed: that the buffer holds the input's first bytes and the length
+// is the input's (`Holds`, of `print`), and that the text in `out` reaches standard output. All between the two is proved.
 use libc::STDIN_FILENO;
 use libc::STDOUT_FILENO;
 use print::PRINTED_BYTES;
-use print::print_oversize;
-use print::print_session;
-ghost use Prim.Native.Nat.{_+_, _*_, _≤_};
+use print::past_length_field;
+use print::print_file;
+ghost use mathlib.Core.Bool.{true};
+ghost use mathlib.Core.Path.{_≡_};
+ghost use Prim.Native.Nat.{_+_, _≤_, _<_};
 ghost use lib.ListN.{length};
-ghost use Rattle.definition.specs.Sizes.{maxPasses};
-ghost use Rattle.print.specs.Text.{lineBytes};
-ghost use Rattle.print.specs.Front.{FrontLength};
+ghost use Rattle.print.specs.Text.{printedBytes};
+ghost use Rattle.print.specs.Held.{Enough};
+ghost use Rattle.deskcheck.specs.Answered.{Answered};
 
-// No length field is so large: a file of so many bytes is refused as a longer one is.
-const LENGTH_BOUND: u64 = 0x1_0000_0000;
+// The length of the buffers that are read into: longer than any session.
+const BUFFER_BYTES: usize = 65536;
 
 // How many bytes were read, and whether a read failed.
 struct Input {
@@ -22,7 +26,7 @@ struct Input {
     failed: bool,
 }
 
-// The length of a file, and whether a read failed.
+// The length of the input, and whether a read failed.
 struct Length {
     bytes: u64,
     failed: bool,
@@ -49,7 +53,7 @@ fn read_from(buf: &mut [u8], at: usize) -> Input
 
 // Reads until the buffer is full or the input ends.
 fn read_head(buf: &mut [u8]) -> Input
-    ensures { λ r. ⌜ FrontLength (r .bytes) (now (buf .exit)) ⌝ }
+    ensures { λ r. ⌜ r .bytes ≤ length (now (buf .exit)) ⌝ }
 {
     let mut at: usize = 0;
     while at < buf.len() {
@@ -68,11 +72,21 @@ fn read_head(buf: &mut [u8]) -> Input
     }
 }
 
-// Reads on from a full buffer to the end of the input, or to a length that no length field has.
-fn read_rest(space: &mut [u8; 65536], held: u64) -> Length {
-    let mut bytes = held;
-    while bytes < LENGTH_BOUND {
-        let more = read_some(space);
+// The length of the input, of which so many bytes are read: no more, where they do not fill the buffer. Else reads on to the end
+// of the input, or to a length that no length field has.
+fn read_rest(held: usize) -> Length
+    ensures { λ r. ⌜ Enough held (r .bytes) ⌝ }
+{
+    let mut bytes = held as u64;
+    if held < BUFFER_BYTES {
+        return Length {
+            bytes: bytes,
+            failed: false,
+        };
+    }
+    let mut space = io::large_buffer();
+    while !past_length_field(bytes) {
+        let more = read_some(&mut space);
         if more.bytes == 0 {
             return Length {
                 bytes: bytes,
@@ -87,36 +101,27 @@ fn read_rest(space: &mut [u8; 65536], held: u64) -> Length {
     }
 }
 
-// The text for the input; 0 where reading failed.
+// The text for the input; 0 bytes where reading failed.
 fn answer(out: &mut [u8]) -> Input
-    requires { ⌜ lineBytes * maxPasses ≤ length (now out) ⌝ }
-    ensures { λ r. ⌜ FrontLength (r .bytes) (now (out .exit)) ⌝ }
+    requires { ⌜ printedBytes ≤ length (now out) ⌝ }
+    ensures { λ r. ⌜ Answered (now (out .entry)) (now (out .exit)) (r .bytes) (r .failed) ⌝ }
 {
-    let mut file = io::large_buffer();
-    let head = read_head(&mut file);
-    let held = head.bytes;
+    let failure = Input {
+        bytes: 0,
+        failed: true,
+    };
+    let mut buffer = io::large_buffer();
+    let head = read_head(&mut buffer);
     if head.failed {
-        return Input {
-            bytes: 0,
-            failed: true,
-        };
+        return failure;
     }
-    if held <= LONGEST_SESSION {
-        return Input {
-            bytes: print_session(&file[..held], out),
-            failed: false,
-        };
-    }
-    let mut space = io::large_buffer();
-    let length = read_rest(&mut space, held as u64);
+    let held = head.bytes;
+    let length = read_rest(held);
     if length.failed {
-        return Input {
-            bytes: 0,
-            failed: true,
-        };
+        return failure;
     }
     Input {
-        bytes: print_oversize(&file, length.bytes, out),
+        bytes: print_file(&buffer, held, length.bytes, out),
         failed: false,
     }
 }

@@ -9,13 +9,13 @@ use borrow.Author.Tests.{ltb-true, ltb-false}
 use lib.Arith.{mod-mul}
 use lib.Dec.{ltb}
 use lib.ListN.{getD}
-use Rattle.print.specs.Text.{places, digits, decimal, reads, Says}
+use Rattle.print.specs.Text.{zeroDigit, maxDigits, places, digits, decimal, reads, Says}
 
 -- ── k digits read as the number's last k
 
-regroup : (v d p r : ℕ) → (v * 10 + (48 + d - 48)) * p + r ≡ v * (10 * p) + (d * p + r)
+regroup : (v d p r : ℕ) → (v * 10 + (zeroDigit + d - zeroDigit)) * p + r ≡ v * (10 * p) + (d * p + r)
 regroup v d p r =
-    let e : 48 + d - 48 ≡ d = omega arith in
+    let e : zeroDigit + d - zeroDigit ≡ d = omega arith in
     ap (λ x. (v * 10 + x) * p + r) e ∙ ap (λ x. x + r) (add-mul (v * 10) d p ∙ ap (λ x. x + d * p) (mul-assoc v 10 p)) ∙ add-assoc (v * (10 * p)) (d * p) r
 
 ten-pos : (k : ℕ) → 0 < 10 ^ k
@@ -25,7 +25,7 @@ digits-read : (k n v : ℕ) → reads v (digits k n) ≡ v * 10 ^ k + n % 10 ^ k
 unfolding digits
 digits-read zero n v = omega arith
 digits-read (suc k) n v =
-    digits-read k n (v * 10 + (48 + n / 10 ^ k % 10 - 48))
+    digits-read k n (v * 10 + (zeroDigit + n / 10 ^ k % 10 - zeroDigit))
     ∙ regroup v (n / 10 ^ k % 10) (10 ^ k) (n % 10 ^ k)
     ∙ ap (λ x. v * (10 * 10 ^ k) + x) (sym (mod-mul n (omega arith) (ten-pos k)))
     ∙ ap (λ x. v * x + n % x) (sym (pow-succ' 10 k))
@@ -61,23 +61,23 @@ counted (suc f) k n h = go (counted f (k + 1) (n / 10)) (ltb n 10) refl
 
 -- ── so the text of a u32 says it
 
-read-back : (n : ℕ) → n < 10000000000 → reads 0 (decimal n) ≡ n
+read-back : (n : ℕ) → n < 10 ^ maxDigits → reads 0 (decimal n) ≡ n
 unfolding decimal
 read-back n h =
-    let c = counted 9 1 n h in
-    let e : places 9 1 n ≡ suc (c .more) = c .count ∙ omega arith in
+    let c = counted (maxDigits - 1) 1 n h in
+    let e : places (maxDigits - 1) 1 n ≡ suc (c .more) = c .count ∙ omega arith in
     let whole : n % 10 ^ suc (c .more) ≡ n = mod-eq-of-lt (c .below) in
     ap (λ k. reads 0 (digits k n)) e ∙ digits-read (suc (c .more)) n 0 ∙ omega (arith, whole)
 
-no-leading-zero : (n : ℕ) → 0 < n → n < 10000000000 → getD (decimal n) 0 0 ≢ 48
+no-leading-zero : (n : ℕ) → 0 < n → n < 10 ^ maxDigits → getD (decimal n) 0 0 ≢ zeroDigit
 unfolding decimal digits
 no-leading-zero n l h z =
-    let c = counted 9 1 n h in
-    let e : places 9 1 n ≡ suc (c .more) = c .count ∙ omega arith in
-    let first : 48 + n / 10 ^ c .more % 10 ≡ 48 = sym (ap (λ k. getD (digits k n) 0 0) e) ∙ z in
+    let c = counted (maxDigits - 1) 1 n h in
+    let e : places (maxDigits - 1) 1 n ≡ suc (c .more) = c .count ∙ omega arith in
+    let first : zeroDigit + n / 10 ^ c .more % 10 ≡ zeroDigit = sym (ap (λ k. getD (digits k n) 0 0) e) ∙ z in
     let low : 1 ≤ n / 10 ^ c .more = le-div-iff-mul-le (ten-pos (c .more)) .1 (omega (arith, c .above l)) in
     let high : n / 10 ^ c .more < 10 = div-lt-iff-lt-mul (ten-pos (c .more)) .1 (rw (pow-succ' 10 (c .more)) at (c .below)) in
     omega arith
 
-pub decimal-says : (n : ℕ) → n < 10000000000 → Says n (decimal n)
+pub decimal-says : (n : ℕ) → n < 10 ^ maxDigits → Says n (decimal n)
 decimal-says n h = record { number = read-back n h; no-leading-zero = λ l. no-leading-zero n l h }

@@ -1,4 +1,4 @@
--- A text that is written is what is printed for a file, readable or refused.
+-- A text is what is printed for a file, readable or refused.
 use mathlib.Core.Path.{_≡_, sym, ap, subst, _∙_}
 use mathlib.Core.Logic.{_≢_}
 use mathlib.Core.List.{List}
@@ -7,36 +7,30 @@ use Prim.Native.Nat.{ℕ, _≤_, _<_}
 use native.Mathlib.Omega.{arith}
 use borrow.Author.Tests.{eq-eqb, ne-eqb}
 use lib.Dec.{eqb}
-use lib.ListN.{length, length-take}
-use Rattle.definition.specs.Sizes.{longestSession}
+use lib.ListN.{length}
+use Rattle.definition.specs.Sizes.{maxPasses, longestSession}
 use Rattle.definition.specs.Session.{session, totalLength}
 use Rattle.definition.specs.Readable.{sessionRefusal}
 use Rattle.definition.specs.Program.{deskcheck}
-use Rattle.print.proofs.Most.{long-refused}
 use Rattle.readable.proofs.Valid.{valid-of}
 use Rattle.rows.specs.Rows.{rowsIn}
 use Rattle.print.specs.Text.{linesText, refusalText}
 use Rattle.print.specs.Output.{output}
-use Rattle.print.specs.Front.{FrontLength}
-
--- So many bytes that the buffer has.
-pub front-length : (out : List ℕ) (r : ℕ) → r ≤ length out → FrontLength r out
-front-length out r h = (h, simp length-take (omega arith))
+use Rattle.print.proofs.Long.{long-refused}
 
 -- The rows of a readable session, as lines.
-pub printed-rows : (s rows text : List ℕ) (n : ℕ) → sessionRefusal s ≡ 0 → n ≡ session s .passCount → rowsIn rows (session s .passCount) ≡ deskcheck s → text ≡ linesText (rowsIn rows n)
-    → text ≡ output s
+pub printed-rows : (s rows : List ℕ) (n : ℕ) → sessionRefusal s ≡ 0 → n ≡ session s .passCount → rowsIn rows (session s .passCount) ≡ deskcheck s → linesText (rowsIn rows n) ≡ output s
 unfolding output
-printed-rows s rows text n z p q e = e ∙ ap (λ k. linesText (rowsIn rows k)) p ∙ ap linesText q ∙ simp (eq-eqb (sessionRefusal s) 0 z)
+printed-rows s rows n z p q = ap (λ k. linesText (rowsIn rows k)) p ∙ ap linesText q ∙ simp (eq-eqb (sessionRefusal s) 0 z)
 
--- It has at most a hundred.
-pub rows-few : (s : List ℕ) (n : ℕ) → sessionRefusal s ≡ 0 → n ≡ session s .passCount → n ≤ 100
-rows-few s n z p = subst (λ k. k ≤ 100) (sym p) (valid-of s z .passes)
+-- It has no more than the most passes.
+pub rows-few : (s : List ℕ) (n : ℕ) → sessionRefusal s ≡ 0 → n ≡ session s .passCount → n ≤ maxPasses
+rows-few s n z p = subst (λ k. k ≤ maxPasses) (sym p) (valid-of s z .passes)
 
 -- The line of a refused one.
-pub printed-refusal : (s text : List ℕ) (n : ℕ) → n ≡ sessionRefusal s → n ≢ 0 → text ≡ refusalText n → text ≡ output s
+pub printed-refusal : (s : List ℕ) (n : ℕ) → n ≡ sessionRefusal s → n ≢ 0 → refusalText n ≡ output s
 unfolding output
-printed-refusal s text n q z e = e ∙ ap refusalText q ∙ simp (ne-eqb (sessionRefusal s) 0 (λ x. z (q ∙ x)))
+printed-refusal s n q z = ap refusalText q ∙ simp (ne-eqb (sessionRefusal s) 0 (λ x. z (q ∙ x)))
 
 -- A file that is longer than any session is refused.
 pub long-not-readable : (s : List ℕ) → longestSession < length s → sessionRefusal s ≢ 0

@@ -1,10 +1,15 @@
--- Texts, computed.
-use mathlib.Core.Path.{_≡_, refl}
-use mathlib.Core.List.{[], _∷_}
+-- Texts, computed; and what a buffer holds.
+use mathlib.Core.Path.{_≡_, refl, sym, _∙_}
+use mathlib.Core.List.{List, [], _∷_, _++_}
+use mathlib.Core.Logic.{inl}
+use Prim.Native.Nat.{ℕ}
+use lib.ListN.{length}
+use lib.Seq.{take-length, take-append-seam}
 use Rattle.definition.specs.Sessions.{example}
 use Rattle.definition.specs.Computing.{computing}
 use Rattle.print.specs.Text.{places, digits, decimal, joined, lineText, linesText, refusalText}
 use Rattle.print.specs.Output.{output}
+use Rattle.print.specs.Held.{Holds}
 
 -- "0", "9", "10", "16384", "4294967295".
 numbers : (decimal 0 ∷ decimal 9 ∷ decimal 10 ∷ decimal 16384 ∷ decimal 4294967295 ∷ [])
@@ -23,3 +28,7 @@ example-output = refl
 empty-output : output [] ≡ (115 ∷ 101 ∷ 115 ∷ 115 ∷ 105 ∷ 111 ∷ 110 ∷ 32 ∷ 49 ∷ 10 ∷ [])
 unfolding computing places digits decimal joined lineText linesText refusalText output
 empty-output = refl
+
+-- A file's first bytes are held by a buffer that is filled with them, and told its length.
+front-held : (first rest : List ℕ) → Holds first (length first) (length (first ++ rest)) (first ++ rest)
+front-held first rest = record { front = take-append-seam first rest ∙ sym (take-length first); counted = inl refl }

@@ -1,5 +1,8 @@
 -- The root of what this crate means.
-pub mod Front
 pub mod Text
+pub mod Put
 pub mod Output
+pub mod Oversize
+pub mod Held
+pub mod Printed
 pub mod Examples

@@ -3,16 +3,25 @@
 use definition::sizes::TOTAL_LENGTH_AT;
 use wire::u32_at;
 ghost use mathlib.Core.Path.{_≡_};
-ghost use mathlib.Core.List.{List};
-ghost use Prim.Native.Nat.{ℕ, _<_};
-ghost use lib.ListN.{length};
-ghost use Rattle.definition.specs.Sizes.{longestSession};
+ghost use Prim.Native.Nat.{_<_};
+ghost use lib.Dec.{leb};
 ghost use Rattle.definition.specs.Session as Se;
-ghost use Rattle.definition.specs.Readable.{sessionRefusal};
+ghost use Rattle.print.specs.Oversize.{lengthBound, oversizeNumber};
 
-// 1 where the length field is wrong, else 2: for every file with that length and that field.
+// No length field is so large.
+const LENGTH_BOUND: u64 = 0x1_0000_0000;
+
+// A file of so many bytes has more than any length field says, and is refused as every longer one is.
+pub fn past_length_field(bytes: u64) -> bool
+    ensures { λ r. ⌜ r ≡ leb lengthBound bytes ⌝ }
+{
+    bytes >= LENGTH_BOUND
+}
+
+// 1 where the length field is wrong, else 2.
 pub fn oversize_refusal(head: &[u8], bytes: u64) -> u32
-    ensures { λ r. ⌜ ((file : List ℕ) → length file ≡ bytes → Se.totalLength file ≡ Se.totalLength (now (head .entry)) → longestSession < bytes → r ≡ sessionRefusal file) ⌝ }
+    ensures { λ r. ⌜ r ≡ oversizeNumber (Se.totalLength (now (head .entry))) bytes ⌝ }
+    ensures { λ _. ⌜ Se.totalLength (now (head .entry)) < lengthBound ⌝ }
 {
     if u32_at(head, TOTAL_LENGTH_AT) as u64 == bytes {
         2

@@ -1,19 +1,22 @@
-// What `deskcheck` prints, as bytes. Each function writes at a place and answers the place after; what stands before that
-// place in the buffer is the text so far.
+// What `deskcheck` prints, as bytes. Each function writes a text at a place, leaves every other byte, and answers the place behind the text.
 use definition::sizes::ROW_BYTES;
 use definition::sizes::ROW_NUMBERS;
 use wire::u32_at;
 ghost use mathlib.Core.Path.{_≡_};
-ghost use mathlib.Core.List.{[], _∷_, _++_};
-ghost use Prim.Native.Nat.{_+_, _*_, _/_, _%_, _^_, _≤_, _<_};
-ghost use lib.ListN.{length, take};
+ghost use mathlib.Core.List.{[], _∷_};
+ghost use Prim.Native.Nat.{_+_, _-_, _*_, _/_, _%_, _^_, _≤_, _<_};
+ghost use lib.ListN.{length};
 ghost use Rattle.definition.specs.Sizes.{rowNumbers, rowBytes};
 ghost use Rattle.lent.specs.Numbers.{numbersAt};
 ghost use Rattle.rows.specs.Rows.{rowsIn};
 ghost use Rattle.print.specs.Text as T;
+ghost use Rattle.print.specs.Put.{Put};
 
-// The most bytes of a row's line.
-pub const LINE_BYTES: usize = 99;
+// The most digits of a u32.
+const MAX_DIGITS: usize = 10;
+
+// The most bytes of a row's line: of each number its digits, and the space or newline behind them.
+pub const LINE_BYTES: usize = ROW_NUMBERS * (MAX_DIGITS + 1);
 
 // What stands between two numbers.
 const SPACE: u8 = b' ';
@@ -24,7 +27,7 @@ const NEWLINE: u8 = b'\n';
 // A byte.
 fn put_byte(out: &mut [u8], at: usize, b: u8) -> usize
     requires { ⌜ at < length (now out) ⌝ }
-    ensures { λ r. ⌜ (take r (now (out .exit)) ≡ take at (now (out .entry)) ++ (b ∷ [])) × (r ≡ at + 1) ⌝ }
+    ensures { λ r. ⌜ Put (now (out .entry)) at (b ∷ []) (now (out .exit)) r ⌝ }
 {
     out[at] = b;
     at + 1
@@ -32,11 +35,11 @@ fn put_byte(out: &mut [u8], at: usize, b: u8) -> usize
 
 // How many digits a number has.
 fn places(n: u32) -> usize
-    ensures { λ r. ⌜ (r ≡ T.places 9 1 n) × (r ≤ 10) ⌝ }
+    ensures { λ r. ⌜ (r ≡ T.places (T.maxDigits - 1) 1 n) × (r ≤ T.maxDigits) ⌝ }
 {
     let mut k: usize = 1;
     let mut rest = n;
-    while k < 10 {
+    while k < MAX_DIGITS {
         if rest < 10 {
             return k;
         }
@@ -48,7 +51,7 @@ fn places(n: u32) -> usize
 
 // The digit of 10 to the power k.
 fn digit(n: u32, k: usize) -> u8
-    ensures { λ r. ⌜ r ≡ 48 + n / 10 ^ k % 10 ⌝ }
+    ensures { λ r. ⌜ r ≡ T.zeroDigit + n / 10 ^ k % 10 ⌝ }
 {
     let mut rest = n;
     let mut i: usize = 0;
@@ -56,13 +59,14 @@ fn digit(n: u32, k: usize) -> u8
         rest = rest / 10;
         i += 1;
     }
-    48 + (rest % 10) as u8
+    b'0' + (rest % 10) as u8
 }
 
 // The last k digits.
 fn put_digits(out: &mut [u8], at: usize, n: u32, k: usize) -> usize
     requires { ⌜ at + k ≤ length (now out) ⌝ }
-    ensures { λ r. ⌜ (take r (now (out .exit)) ≡ take at (now (out .entry)) ++ T.digits k n) × (r ≡ at + k) ⌝ }
+    ensures { λ r. ⌜ Put (now (out .entry)) at (T.digits k n) (now (out .exit)) r ⌝ }
+    ensures { λ r. ⌜ r ≡ at + k ⌝ }
 {
     let mut p = at;
     let mut left = k;
@@ -74,9 +78,10 @@ fn put_digits(out: &mut [u8], at: usize, n: u32, k: usize) -> usize
 }
 
 // A number, as a text that says it.
-pub fn put_decimal(out: &mut [u8], at: usize, n: u32) -> usize
-    requires { ⌜ at + 10 ≤ length (now out) ⌝ }
-    ensures { λ r. ⌜ (take r (now (out .exit)) ≡ take at (now (out .entry)) ++ T.decimal n) × (r ≤ at + 10) ⌝ }
+fn put_decimal(out: &mut [u8], at: usize, n: u32) -> usize
+    requires { ⌜ at + T.maxDigits ≤ length (now out) ⌝ }
+    ensures { λ r. ⌜ Put (now (out .entry)) at (T.decimal n) (now (out .exit)) r ⌝ }
+    ensures { λ r. ⌜ r ≤ at + T.maxDigits ⌝ }
     ensures { λ _. ⌜ T.Says n (T.decimal n) ⌝ }
 {
     put_digits(out, at, n, places(n))
@@ -84,17 +89,19 @@ pub fn put_decimal(out: &mut [u8], at: usize, n: u32) -> usize
 
 // A space and a number.
 fn put_next(out: &mut [u8], at: usize, n: u32) -> usize
-    requires { ⌜ at + 11 ≤ length (now out) ⌝ }
-    ensures { λ r. ⌜ (take r (now (out .exit)) ≡ take at (now (out .entry)) ++ (T.space ∷ T.decimal n)) × (r ≤ at + 11) ⌝ }
+    requires { ⌜ at + T.numberBytes ≤ length (now out) ⌝ }
+    ensures { λ r. ⌜ Put (now (out .entry)) at (T.space ∷ T.decimal n) (now (out .exit)) r ⌝ }
+    ensures { λ r. ⌜ r ≤ at + T.numberBytes ⌝ }
 {
     let p = put_byte(out, at, SPACE);
     put_decimal(out, p, n)
 }
 
-// The numbers of row k, with spaces between.
+// The numbers of row k, with spaces between: one byte less than a line at most.
 fn put_row(rows: &[u8], k: usize, out: &mut [u8], at: usize) -> usize
-    requires { ⌜ (rowBytes * k + rowBytes ≤ length (now rows)) × (at + 98 ≤ length (now out)) ⌝ }
-    ensures { λ r. ⌜ (take r (now (out .exit)) ≡ take at (now (out .entry)) ++ T.joined (numbersAt (now (rows .entry)) (rowBytes * k) rowNumbers)) × (r ≤ at + 98) ⌝ }
+    requires { ⌜ (rowBytes * k + rowBytes ≤ length (now rows)) × (at + T.lineBytes ≤ length (now out)) ⌝ }
+    ensures { λ r. ⌜ Put (now (out .entry)) at (T.joined (numbersAt (now (rows .entry)) (rowBytes * k) rowNumbers)) (now (out .exit)) r ⌝ }
+    ensures { λ r. ⌜ r < at + T.lineBytes ⌝ }
 {
     let first = ROW_BYTES * k;
     let mut p = put_decimal(out, at, u32_at(rows, first));
@@ -107,9 +114,10 @@ fn put_row(rows: &[u8], k: usize, out: &mut [u8], at: usize) -> usize
 }
 
 // The line of row k.
-pub fn put_line(rows: &[u8], k: usize, out: &mut [u8], at: usize) -> usize
+fn put_line(rows: &[u8], k: usize, out: &mut [u8], at: usize) -> usize
     requires { ⌜ (rowBytes * k + rowBytes ≤ length (now rows)) × (at + T.lineBytes ≤ length (now out)) ⌝ }
-    ensures { λ r. ⌜ (take r (now (out .exit)) ≡ take at (now (out .entry)) ++ T.lineText (numbersAt (now (rows .entry)) (rowBytes * k) rowNumbers)) × (r ≤ at + T.lineBytes) ⌝ }
+    ensures { λ r. ⌜ Put (now (out .entry)) at (T.lineText (numbersAt (now (rows .entry)) (rowBytes * k) rowNumbers)) (now (out .exit)) r ⌝ }
+    ensures { λ r. ⌜ r ≤ at + T.lineBytes ⌝ }
 {
     let p = put_row(rows, k, out, at);
     put_byte(out, p, NEWLINE)
@@ -118,7 +126,8 @@ pub fn put_line(rows: &[u8], k: usize, out: &mut [u8], at: usize) -> usize
 // The lines of the first n rows, from the front.
 pub fn put_lines(rows: &[u8], n: usize, out: &mut [u8]) -> usize
     requires { ⌜ (rowBytes * n ≤ length (now rows)) × (T.lineBytes * n ≤ length (now out)) ⌝ }
-    ensures { λ r. ⌜ (take r (now (out .exit)) ≡ T.linesText (rowsIn (now (rows .entry)) n)) × (r ≤ T.lineBytes * n) ⌝ }
+    ensures { λ r. ⌜ Put (now (out .entry)) 0 (T.linesText (rowsIn (now (rows .entry)) n)) (now (out .exit)) r ⌝ }
+    ensures { λ r. ⌜ r ≤ T.lineBytes * n ⌝ }
 {
     let mut p: usize = 0;
     let mut k: usize = 0;
@@ -131,8 +140,8 @@ pub fn put_lines(rows: &[u8], n: usize, out: &mut [u8]) -> usize
 
 // The word "session" and a space, at the front.
 fn put_word(out: &mut [u8]) -> usize
-    requires { ⌜ 8 ≤ length (now out) ⌝ }
-    ensures { λ r. ⌜ (take r (now (out .exit)) ≡ T.sessionWord) × (r ≡ 8) ⌝ }
+    requires { ⌜ length T.sessionWord ≤ length (now out) ⌝ }
+    ensures { λ r. ⌜ Put (now (out .entry)) 0 T.sessionWord (now (out .exit)) r ⌝ }
 {
     let mut p = put_byte(out, 0, b's');
     p = put_byte(out, p, b'e');
@@ -146,8 +155,9 @@ fn put_word(out: &mut [u8]) -> usize
 
 // The line of a refused session, at the front.
 pub fn put_refusal(number: u32, out: &mut [u8]) -> usize
-    requires { ⌜ 19 ≤ length (now out) ⌝ }
-    ensures { λ r. ⌜ (take r (now (out .exit)) ≡ T.refusalText number) × (r ≤ 19) ⌝ }
+    requires { ⌜ T.refusalBytes ≤ length (now out) ⌝ }
+    ensures { λ r. ⌜ Put (now (out .entry)) 0 (T.refusalText number) (now (out .exit)) r ⌝ }
+    ensures { λ r. ⌜ r ≤ T.refusalBytes ⌝ }
 {
     let at = put_word(out);
     let p = put_decimal(out, at, number);

@@ -2,7 +2,7 @@
 use mathlib.Core.Path.{_≡_, refl}
 use Prim.Native.Nat.{_-_, _≤_}
 use native.Mathlib.Omega.{arith}
-use lib.ListN.{length, length-take}
+use lib.ListN.{length}
 use Rattle.deskcheck.proofs.read_head.Statement.{statement}
 use Rattle.deskcheck.proofs.read_head.Tie as tie
 
@@ -11,12 +11,6 @@ Inv-loop buf₀ at₀ buf at = (at ≤ length buf) × (length buf ≡ length buf
 
 abbrev μ-loop : tie.MeasureT-loop
 μ-loop buf₀ at₀ buf at = length buf - at
-
-returns : tie.Need-returns Inv-loop μ-loop
-returns c = (omega arith, simp length-take (omega arith))
-
-returns-2 : tie.Need-returns-2 Inv-loop μ-loop
-returns-2 c = (omega arith, simp length-take (omega arith))
 
 pub read-head-spec : {M : Type 1} → statement M
 read-head-spec =
@@ -27,9 +21,9 @@ read-head-spec =
     (λ c. (omega arith, refl))
     (λ c κs. omega arith)
     (λ c. omega arith)
-    returns
+    (λ c. omega arith)
     (λ c. omega arith)
     (λ c. omega arith)
     (λ c. (omega arith, omega arith))
     (λ c. omega arith)
-    returns-2)
+    (λ c. omega arith))

@@ -5,6 +5,7 @@ use native.Mathlib.Omega.{arith}
 use native.Mathlib.Numerals.{add-one}
 use native.Mathlib.Nat.{div-one}
 use Rattle.wire.proofs.Writing.{shifted}
+use Rattle.print.specs.Text.{zeroDigit}
 use Rattle.print.proofs.text.digit.Statement.{statement}
 use Rattle.print.proofs.text.digit.Tie as tie
 
@@ -25,7 +26,7 @@ loop-again c =
 returns : tie.Need-returns Inv-loop μ-loop
 returns c =
     let e : c .before .loop .i ≡ c .before .before .args .k = omega arith in
-    ap (λ m. 48 + m % 10) (c .before .loop .inv .0 ∙ simp e)
+    ap (λ m. zeroDigit + m % 10) (c .before .loop .inv .0 ∙ simp e)
 
 pub digit-spec : {M : Type 1} → statement M
 digit-spec =

@@ -2,16 +2,16 @@
 use mathlib.Core.Path.{_≡_, refl, sym, _∙_}
 use Prim.Native.Nat.{_-_, _≤_}
 use native.Mathlib.Omega.{arith}
-use Rattle.print.specs.Text.{places}
+use Rattle.print.specs.Text.{maxDigits, places}
 use Rattle.print.proofs.Lines.{count-stops, count-goes, count-ends}
 use Rattle.print.proofs.text.places.Statement.{statement}
 use Rattle.print.proofs.text.places.Tie as tie
 
 abbrev Inv-loop : tie.InvT-loop
-Inv-loop n k₀ rest₀ k rest = (places (10 - k) k rest ≡ places 9 1 n) × (k ≤ 10)
+Inv-loop n k₀ rest₀ k rest = (places (maxDigits - k) k rest ≡ places (maxDigits - 1) 1 n) × (k ≤ maxDigits)
 
 abbrev μ-loop : tie.MeasureT-loop
-μ-loop n k₀ rest₀ k rest = 10 - k
+μ-loop n k₀ rest₀ k rest = maxDigits - k
 
 loop-holds : tie.Need-loop-holds Inv-loop μ-loop
 loop-holds c = (refl, omega arith)
@@ -29,7 +29,7 @@ returns c =
 returns-2 : tie.Need-returns-2 Inv-loop μ-loop
 returns-2 c =
     let l = c .before .loop in
-    let e : l .k ≡ 10 = omega arith in
+    let e : l .k ≡ maxDigits = omega arith in
     (sym (count-ends (l .k) (l .rest) e) ∙ l .inv .0, omega arith)
 
 pub places-spec : {M : Type 1} → statement M

@@ -1,8 +1,8 @@
 -- As many digits as the number has; they say it.
-use mathlib.Core.Path.{_∙_}
 use native.Mathlib.Omega.{arith}
 use borrow.Author.Needs.{needs}
 use Rattle.print.specs.Text.{decimal}
+use Rattle.print.proofs.Put.{put-as}
 use Rattle.print.proofs.Decimal.{decimal-says}
 use Rattle.print.proofs.text.put_decimal.Statement.{statement}
 use Rattle.print.proofs.text.put_decimal.Tie as tie
@@ -10,7 +10,7 @@ use Rattle.print.proofs.text.put_decimal.Tie as tie
 returns : tie.Need-returns
 unfolding decimal
 returns c =
-    ((c .before .before .put-digits .ensures .0 ∙ simp (c .before .before .before .places .ensures .0), omega arith), decimal-says _ (omega arith))
+    (put-as (simp (c .before .before .before .places .ensures .0)) (c .before .before .put-digits .ensures .0), (omega arith, decimal-says _ (omega arith)))
 
 pub put-decimal-spec : {M : Type 1} → statement M
 put-decimal-spec = tie.close (tie.spec (λ c κs. search needs) (λ c κs. search needs) (λ c. search needs) returns)

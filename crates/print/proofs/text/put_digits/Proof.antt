@@ -1,17 +1,17 @@
--- The invariant: the text so far and the digits that are left are the whole text.
+-- The invariant: with the digits that are left written from here, the whole text is written from its place.
 use mathlib.Core.Path.{_≡_, refl, sym, ap, _∙_}
-use mathlib.Core.List.{_++_, append-nil}
 use Prim.Native.Nat.{_+_, _-_, suc}
 use native.Mathlib.Omega.{arith}
 use borrow.Author.Needs.{needs}
-use lib.ListN.{length, take}
+use lib.ListN.{length}
+use lib.Seq.{sets}
 use Rattle.print.specs.Text.{digits}
-use Rattle.print.proofs.Lines.{digit-more}
+use Rattle.print.proofs.Lines.{digit-more, digits-length}
 use Rattle.print.proofs.text.put_digits.Statement.{statement}
 use Rattle.print.proofs.text.put_digits.Tie as tie
 
 abbrev Inv-loop : tie.InvT-loop
-Inv-loop out₀ at n k p₀ left₀ out p left = (take p out ++ digits left n ≡ take at out₀ ++ digits k n) × (p + left ≡ at + k) × (length out ≡ length out₀)
+Inv-loop out₀ at n k p₀ left₀ out p left = (sets out p (digits left n) ≡ sets out₀ at (digits k n)) × (p + left ≡ at + k) × (length out ≡ length out₀)
 
 abbrev μ-loop : tie.MeasureT-loop
 μ-loop out₀ at n k p₀ left₀ out p left = left
@@ -25,7 +25,7 @@ loop-again c =
     let at = c .before .before .before .before .before .before in
     let l = at .loop in
     let e : l .left ≡ suc (l .left - 1) = omega arith in (
-      digit-more (take (l .p) (l .out)) _ _ (l .left - 1) (l .left) (at .before .before .args .n) e (c .before .before .before .digit .ensures) (put .ensures .0) ∙ l .inv .0,
+      digit-more (l .left - 1) (l .left) (at .before .before .args .n) e (c .before .before .before .digit .ensures) (put .ensures) ∙ l .inv .0,
       omega arith,
       put .kept .0 ∙ l .inv .2,
     )
@@ -37,8 +37,14 @@ returns : tie.Need-returns Inv-loop μ-loop
 unfolding digits
 returns c =
     let l = c .before .loop in
-    let e : l .left ≡ 0 = omega arith in
-    (sym (append-nil _) ∙ ap (λ m. take (l .p) (l .out) ++ digits m (c .before .before .before .args .n)) (sym e) ∙ l .inv .0, omega arith)
+    let a = c .before .before .before .args in
+    let e : l .left ≡ 0 = omega arith in (
+      record {
+        bytes = ap (λ m. sets (l .out) (l .p) (digits m (a .n))) (sym e) ∙ l .inv .0;
+        behind = omega (arith, digits-length (a .k) (a .n));
+      },
+      omega arith,
+    )
 
 pub put-digits-spec : {M : Type 1} → statement M
 put-digits-spec =

@@ -1,9 +1,8 @@
 -- The row and a newline.
-use mathlib.Core.Path.{_∙_}
-use mathlib.Core.List.{append-assoc}
 use native.Mathlib.Omega.{arith}
 use borrow.Author.Needs.{needs}
 use Rattle.print.specs.Text.{lineText}
+use Rattle.print.proofs.Put.{put-then}
 use Rattle.print.proofs.text.put_line.Statement.{statement}
 use Rattle.print.proofs.text.put_line.Tie as tie
 
@@ -11,7 +10,7 @@ returns : tie.Need-returns
 unfolding lineText
 returns c =
     let row = c .before .before .before .before .before .before in
-    (c .before .before .put-byte .ensures .0 ∙ simp (row .put-row .ensures .0, append-assoc), omega arith)
+    (put-then (row .put-row .ensures .0) (c .before .before .put-byte .ensures), omega arith)
 
 pub put-line-spec : {M : Type 1} → statement M
 put-line-spec = tie.close (tie.spec (λ c κs. search needs) (λ c κs. search needs) (λ c. search needs) returns)

@@ -1,15 +1,14 @@
 -- A byte and then a number.
-use mathlib.Core.Path.{_∙_}
-use mathlib.Core.List.{append-assoc}
 use native.Mathlib.Omega.{arith}
 use borrow.Author.Needs.{needs}
+use Rattle.print.proofs.Put.{put-then}
 use Rattle.print.proofs.text.put_next.Statement.{statement}
 use Rattle.print.proofs.text.put_next.Tie as tie
 
 returns : tie.Need-returns
 returns c =
     let put = c .before .before .before .before .before .before .put-byte in
-    (c .before .before .put-decimal .ensures .0 .0 ∙ simp (put .ensures .0, append-assoc), omega arith)
+    (put-then (put .ensures) (c .before .before .put-decimal .ensures .0), omega arith)
 
 pub put-next-spec : {M : Type 1} → statement M
 put-next-spec = tie.close (tie.spec (λ c κs. search needs) (λ c κs. search needs) (λ c. search needs) returns)

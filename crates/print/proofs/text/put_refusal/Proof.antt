@@ -1,8 +1,8 @@
 -- The word, the number, the newline.
-use mathlib.Core.Path.{_∙_}
 use native.Mathlib.Omega.{arith}
 use borrow.Author.Needs.{needs}
 use Rattle.print.specs.Text.{refusalText, lineText, joined}
+use Rattle.print.proofs.Put.{put-then}
 use Rattle.print.proofs.text.put_refusal.Statement.{statement}
 use Rattle.print.proofs.text.put_refusal.Tie as tie
 
@@ -11,7 +11,7 @@ unfolding refusalText lineText joined
 returns c =
     let number = c .before .before .before .before .before .before in
     let word = number .before .before .before .before in
-    (c .before .before .put-byte .ensures .0 ∙ simp (number .put-decimal .ensures .0 .0, word .put-word .ensures .0), omega arith)
+    (put-then (word .put-word .ensures) (put-then (number .put-decimal .ensures .0) (c .before .before .put-byte .ensures)), omega arith)
 
 pub put-refusal-spec : {M : Type 1} → statement M
 put-refusal-spec = tie.close (tie.spec (λ c κs. search needs) (λ c κs. search needs) (λ c κs. search needs) (λ c. search needs) returns)

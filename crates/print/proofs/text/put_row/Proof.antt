@@ -1,34 +1,35 @@
 -- The invariant: the first i numbers are written.
 use mathlib.Core.Path.{_≡_, refl, _∙_}
-use mathlib.Core.List.{List, _++_}
+use mathlib.Core.List.{List}
 use Prim.Native.Nat.{ℕ, _+_, _-_, _*_, _≤_, _<_}
 use native.Mathlib.Omega.{arith}
 use borrow.Author.Needs.{needs}
-use lib.ListN.{length, take}
+use lib.ListN.{length}
 use Rattle.definition.specs.Sizes.{rowNumbers}
 use Rattle.lent.specs.Numbers.{numbersAt}
-use Rattle.print.specs.Text.{joined}
+use Rattle.print.specs.Text.{numberBytes, joined}
+use Rattle.print.specs.Put.{Put}
 use Rattle.print.proofs.Lines.{number-first, number-more}
 use Rattle.print.proofs.text.put_row.Statement.{statement}
 use Rattle.print.proofs.text.put_row.Tie as tie
 
 abbrev Inv-loop : tie.InvT-loop
 Inv-loop rows k out₀ at first p₀ i₀ out p i =
-    ((t : List ℕ) → take p₀ out₀ ≡ t ++ joined (numbersAt rows first 1) → take p out ≡ t ++ joined (numbersAt rows first i))
-    × (0 < i) × (i ≤ rowNumbers) × (p + 11 ≤ p₀ + 11 * i) × (length out ≡ length out₀)
+    ((l : List ℕ) → Put l at (joined (numbersAt rows first 1)) out₀ p₀ → Put l at (joined (numbersAt rows first i)) out p)
+    × (0 < i) × (i ≤ rowNumbers) × (p + numberBytes ≤ p₀ + numberBytes * i) × (length out ≡ length out₀)
 
 abbrev μ-loop : tie.MeasureT-loop
 μ-loop rows k out₀ at first p₀ i₀ out p i = rowNumbers - i
 
 loop-holds : tie.Need-loop-holds Inv-loop μ-loop
-loop-holds c = (λ t h. h, omega arith, omega arith, omega arith, refl)
+loop-holds c = (λ l h. h, omega arith, omega arith, omega arith, refl)
 
 loop-again : tie.Need-loop-again Inv-loop μ-loop
 loop-again c =
     let put = c .before .before .put-next in
     let at = c .before .before .before .before .before .before in
     let l = at .loop in (
-      λ t h. number-more t _ _ _ _ (l .i) _ (l .inv .1) (l .inv .0 t h) (c .before .before .before .u32-at2 .ensures) (put .ensures .0),
+      λ b h. number-more _ _ (l .i) _ (l .inv .1) (l .inv .0 b h) (c .before .before .before .u32-at2 .ensures) (put .ensures .0),
       omega arith,
       omega arith,
       omega arith,
@@ -44,8 +45,7 @@ returns c =
     let first = c .before .before .before .before in
     let a = first .before .before .before .before .before .args in
     let e : l .i ≡ rowNumbers = omega arith in
-    let t = take (a .at) (a .out .now) in
-    (rw e at (l .inv .0 t (number-first t _ _ _ _ (first .before .u32-at .ensures) (first .put-decimal .ensures .0 .0))), omega arith)
+    (rw e at (l .inv .0 (a .out .now) (number-first _ _ _ (first .before .u32-at .ensures) (first .put-decimal .ensures .0))), omega arith)
 
 pub put-row-spec : {M : Type 1} → statement M
 put-row-spec =

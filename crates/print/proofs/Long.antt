@@ -7,7 +7,7 @@ use native.Mathlib.Omega.{arith}
 use lib.Dec.{leb, eqb}
 use lib.ListN.{length}
 use borrow.Author.Tests.{leb-true, eqb-true, le-leb}
-use Rattle.definition.specs.Sizes.{headerBytes, maxTextures, maxViews, maxPasses, maxSlots, longestSession, maxMultiviews, maxFlags}
+use Rattle.definition.specs.Sizes.{headerBytes, maxTextures, maxViews, maxPasses, maxSlots, maxMultiviews, maxFlags, longestSession}
 use Rattle.definition.specs.Session.{session, textureCount, textureOffset, viewCount, viewOffset, passCount, passOffset, maxColors, maxMultiview, flags, totalLength, viewStart, passStart, passEnd}
 use Rattle.definition.specs.Verdict.{_then_, unless, nowhere, fine, refusedAt}
 use Rattle.definition.specs.Readable.{between, lengthRight, headerRight, texturesRight, viewsRight, sessionVerdict, sessionRefusal}
@@ -15,6 +15,7 @@ use Rattle.definition.specs.declared.Verdict.{Verdict}
 use Rattle.laws.proofs.Tests.{and-on, and-off-right}
 use Rattle.laws.proofs.Conjunctions.{each}
 use Rattle.laws.proofs.Verdicts.{then-stop, then-go, unless-fine, unless-refused}
+use Rattle.print.specs.Oversize.{oversizeNumber}
 
 -- A right header's length field is at most the longest session's length.
 header-most : (s : List ℕ) → headerRight s ≡ true → totalLength s ≤ longestSession
@@ -30,7 +31,7 @@ header-most s h =
         ∷ eqb (passEnd s) (totalLength s) ∷ []
 
 -- So a longer file is refused as 1 where its length field is wrong, else as 2.
-pub long-refused : (s : List ℕ) → longestSession < length s → sessionRefusal s ≡ cond (eqb (totalLength s) (length s)) 2 1
+pub long-refused : (s : List ℕ) → longestSession < length s → sessionRefusal s ≡ oversizeNumber (totalLength s) (length s)
 unfolding sessionVerdict lengthRight
 long-refused s h = go (eqb (totalLength s) (length s)) refl (headerRight s) refl
   where

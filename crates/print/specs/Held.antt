@@ -1,0 +1,29 @@
+-- What is printed for a file of which a buffer holds the first bytes.
+use mathlib.Core.Path.{_≡_}
+use mathlib.Core.Bool.{cond}
+use mathlib.Core.List.{List}
+use mathlib.Core.Logic.{_⊎_}
+use Prim.Native.Nat.{ℕ, _≤_, _<_}
+use lib.Dec.{leb}
+use lib.ListN.{length, take}
+use Rattle.definition.specs.Sizes.{longestSession}
+use Rattle.definition.specs.Session.{totalLength}
+use Rattle.print.specs.Text.{refusalText}
+use Rattle.print.specs.Output.{output}
+use Rattle.print.specs.Oversize.{lengthBound, oversizeNumber}
+
+-- So many bytes are enough of a file of so many: all of them, or more than any session has.
+abbrev pub Enough : ℕ → ℕ → Type 0
+Enough held bytes = (held ≡ bytes) ⊎ ((longestSession < held) × (held ≤ bytes))
+
+-- A buffer holds the first `held` bytes of a file whose length is told as `bytes`.
+pub record Holds (buffer : List ℕ) (held bytes : ℕ) (file : List ℕ) : Type 0 where
+  -- As far as the buffer goes, its bytes are the file's.
+  pub front : take held file ≡ take held buffer
+  -- The file has so many bytes; or it has more than any length field says, and so many are told.
+  pub counted : (length file ≡ bytes) ⊎ ((lengthBound ≤ length file) × (lengthBound ≤ bytes))
+
+-- The text for what is held: for no more bytes than a session may have, as they are the file; for more, the refusal.
+unfoldable pub heldText : List ℕ → ℕ → ℕ → List ℕ
+heldText buffer held bytes =
+    cond (leb held longestSession) (output (take held buffer)) (refusalText (oversizeNumber (totalLength buffer) bytes))
