@@ -15,6 +15,9 @@ returns c =
     let number = c .before .before .before .before .if1 .taken in
     printed (put-as (printed-refusal _ _ (called .ensures .0) number) (c .before .before .put-refusal .ensures .0)) (omega arith)
 
+same-length : tie.Need-same-length
+same-length c = search needs
+
 put-lines-requires : tie.Need-put-lines-requires
 put-lines-requires c κs =
     let counted = c .before in
@@ -41,7 +44,7 @@ print-session-spec =
     (λ c. search needs)
     (λ c κs. search needs)
     (λ c κs. search needs)
-    (λ c. search needs)
+    same-length
     returns
     (λ c. search needs)
     (λ c κs. search needs)
