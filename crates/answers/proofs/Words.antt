@@ -11,17 +11,17 @@ use Rattle.definition.specs.Bytes.{u32At}
 use Rattle.definition.specs.declared.Attachment.{Attachment}
 use Rattle.laws.proofs.Tests.{cond-on, cond-off}
 use Rattle.answers.specs.declared.Place.{Place}
-use Rattle.answers.specs.Words.{nextWord, nextWords, attachmentWords, attachmentsWords}
+use Rattle.answers.specs.Words.{wordBytes, nextWord, nextWords, attachmentWords, attachmentsWords}
 
 -- A word that the list has.
-pub word-there : (b : List ℕ) (p : Place) (w : ℕ) → p .at + 4 ≤ length b → nextWord b p w ≡ record { at = p .at + 4; same = p .same && eqb (u32At b (p .at)) w }
+pub word-there : (b : List ℕ) (p : Place) (w : ℕ) → p .at + wordBytes ≤ length b → nextWord b p w ≡ record { at = p .at + wordBytes; same = p .same && eqb (u32At b (p .at)) w }
 unfolding nextWord
-word-there b p w h = cond-on (leb (p .at + 4) (length b)) _ _ (le-leb (p .at + 4) (length b) h)
+word-there b p w h = cond-on (leb (p .at + wordBytes) (length b)) _ _ (le-leb (p .at + wordBytes) (length b) h)
 
 -- The list ends before it.
-pub word-past : (b : List ℕ) (p : Place) (w : ℕ) → length b < p .at + 4 → nextWord b p w ≡ record { at = p .at; same = false }
+pub word-past : (b : List ℕ) (p : Place) (w : ℕ) → length b < p .at + wordBytes → nextWord b p w ≡ record { at = p .at; same = false }
 unfolding nextWord
-word-past b p w h = cond-off (leb (p .at + 4) (length b)) _ _ (lt-leb (p .at + 4) (length b) h)
+word-past b p w h = cond-off (leb (p .at + wordBytes) (length b)) _ _ (lt-leb (p .at + wordBytes) (length b) h)
 
 -- Some words, then others.
 pub words-append : (b : List ℕ) (p : Place) (xs ys : List ℕ) → nextWords b p (xs ++ ys) ≡ nextWords b (nextWords b p xs) ys

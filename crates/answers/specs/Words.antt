@@ -5,7 +5,7 @@ use mathlib.Core.List.{List, [], _∷_, _++_}
 use lib.Dec.{leb, ltb, eqb}
 use lib.Ieee.{Float, binary32, binary64, toBits}
 use lib.ListN.{length}
-use Rattle.definition.specs.Sizes.{surfaceNumbers, rowNumbers, rowBytes}
+use Rattle.definition.specs.Sizes.{surfaceNumbers, maxClears, countBytes, rowNumbers, rowBytes}
 use Rattle.definition.specs.Bytes.{u32At}
 use Rattle.definition.specs.declared.Attachment.{Attachment}
 use Rattle.definition.specs.declared.Color.{Color}
@@ -13,10 +13,14 @@ use Rattle.lent.specs.Numbers.{numbersAt}
 use Rattle.desk.specs.declared.reply.Reply.{Reply}
 use Rattle.answers.specs.declared.Place.{Place}
 
+-- Bytes of a word.
+abbrev pub wordBytes : ℕ
+wordBytes = 4
+
 -- The next word is w, or the list ends before it.
 unfoldable pub nextWord : List ℕ → Place → ℕ → Place
 nextWord b p w =
-    cond (leb (p .at + 4) (length b)) (record { at = p .at + 4; same = p .same && eqb (u32At b (p .at)) w })
+    cond (leb (p .at + wordBytes) (length b)) (record { at = p .at + wordBytes; same = p .same && eqb (u32At b (p .at)) w })
     (record { at = p .at; same = false })
 
 -- The next words are these.
@@ -55,9 +59,9 @@ restWords r =
 abbrev pub withheld : ℕ → Bool
 withheld n = ((eqb n 5 || eqb n 48) || eqb n 49) || eqb n 50
 
--- Three numbers a surface, of at most a thousand.
+-- The numbers of so many surfaces; none of more than any list has room for.
 abbrev pub numbersOf : ℕ → ℕ
-numbersOf n = cond (ltb 1000 n) 0 (surfaceNumbers * n)
+numbersOf n = cond (ltb maxClears n) 0 (surfaceNumbers * n)
 
 -- The same words, compared in two ways.
 abbrev pub both : Place → Place → Place
@@ -70,5 +74,5 @@ nextReply b p k r rows clears discards =
     let held = u32At discards 0 in
     let line = both (nextWords b start (numbersAt rows (rowBytes * k) rowNumbers)) (nextWords b start (lineWords k r held)) in
     let rest = nextWords b line (restWords r) in
-    let cleared = nextWords b rest (numbersAt clears 4 (numbersOf (r .clears))) in
-    cond (withheld (r .number)) (nextWord b p 1) (nextWords b cleared (numbersAt discards 4 (numbersOf held)))
+    let cleared = nextWords b rest (numbersAt clears countBytes (numbersOf (r .clears))) in
+    cond (withheld (r .number)) (nextWord b p 1) (nextWords b cleared (numbersAt discards countBytes (numbersOf held)))

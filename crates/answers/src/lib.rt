@@ -1,17 +1,33 @@
 // The words of an answer: a reply to a pass, held to the next words of a list of answers. harness/README.md has the list's form.
 use definition::Attachment;
 use definition::Color;
+use definition::sizes::COUNT_BYTES;
 use definition::sizes::MAX_ATTACHMENTS;
+use definition::sizes::MAX_CLEARS;
 use definition::sizes::ROW_BYTES;
 use definition::sizes::ROW_NUMBERS;
+use definition::sizes::SURFACE_NUMBERS;
 use desk::reply::Reply;
 use wire::bits_of_f32;
 use wire::bits_of_f64;
 use wire::u32_at;
 ghost use mathlib.Core.Path.{_≡_};
 ghost use Prim.Native.Nat.{_<_};
+ghost use Rattle.definition.specs.Sizes.{maxPasses};
 ghost use Rattle.lent.specs.Numbers.{numbersAt};
 ghost use Rattle.answers.specs.Words.{nextWord, nextWords, doubleWords, colorWords, attachmentWords, attachmentsWords, lineWords, restWords, withheld, numbersOf, nextReply};
+
+// Bytes of a word.
+pub const WORD_BYTES: usize = 4;
+
+// Where the records of a lent list start: behind its count.
+const RECORDS: u32 = COUNT_BYTES as u32;
+
+// The most surfaces of a lent list: the clears have the most room.
+const MAX_LENT: u32 = MAX_CLEARS as u32;
+
+// The numbers of a surface.
+const SURFACE: u32 = SURFACE_NUMBERS as u32;
 
 // A place in the list, and whether every word so far is the one that was answered.
 pub struct Place {
@@ -25,20 +41,20 @@ pub fn word(list: &[u8], p: Place, w: u32) -> Place
 {
     let at = p.at;
     let n = list.len();
-    if n < 4 {
+    if n < WORD_BYTES {
         return Place {
             at: at,
             same: false,
         };
     }
-    if at > n - 4 {
+    if at > n - WORD_BYTES {
         return Place {
             at: at,
             same: false,
         };
     }
     Place {
-        at: at + 4,
+        at: at + WORD_BYTES,
         same: p.same & (u32_at(list, at) == w),
     }
 }
@@ -50,7 +66,7 @@ pub fn numbers(list: &[u8], p: Place, b: &[u8], from: u32, n: u32) -> Place
     let mut q = p;
     let mut i: u32 = 0;
     while i < n {
-        q = word(list, q, u32_at(b, from as usize + 4 * i as usize));
+        q = word(list, q, u32_at(b, from as usize + WORD_BYTES * i as usize));
         i += 1;
     }
     q
@@ -96,7 +112,7 @@ fn attachments(list: &[u8], p: Place, count: u32, records: [Attachment; MAX_ATTA
 {
     let mut q = p;
     let mut i: usize = 0;
-    while i < 17 {
+    while i < MAX_ATTACHMENTS {
         if i >= count as usize {
             return q;
         }
@@ -141,14 +157,14 @@ fn is_withheld(number: u32) -> bool
     (number == 5) | (number == 48) | (number == 49) | (number == 50)
 }
 
-// Three numbers a surface, of at most a thousand.
+// The numbers of so many surfaces; none of more than any list has room for.
 fn numbers_of(surfaces: u32) -> u32
     ensures { λ r. ⌜ r ≡ numbersOf surfaces ⌝ }
 {
-    if surfaces > 1000 {
+    if surfaces > MAX_LENT {
         return 0;
     }
-    3 * surfaces
+    SURFACE * surfaces
 }
 
 // The next words are those of pass k: its line by the reply and by the rows, what follows, the clears and the discards.
@@ -161,7 +177,7 @@ pub fn reply(
     clears: &[u8],
     discards: &[u8],
 ) -> Place
-    requires { ⌜ k < 100 ⌝ }
+    requires { ⌜ k < maxPasses ⌝ }
     ensures { λ q. ⌜ q ≡ nextReply (now (list .entry)) p k r (now (rows .entry)) (now (clears .entry)) (now (discards .entry)) ⌝ }
 {
     if is_withheld(r.number) {
@@ -176,6 +192,6 @@ pub fn reply(
         same: by_row.same & by_reply.same,
     };
     let after = rest(list, both, r);
-    let cleared = numbers(list, after, clears, 4, numbers_of(r.clears));
-    numbers(list, cleared, discards, 4, numbers_of(held))
+    let cleared = numbers(list, after, clears, RECORDS, numbers_of(r.clears));
+    numbers(list, cleared, discards, RECORDS, numbers_of(held))
 }

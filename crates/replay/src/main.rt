@@ -1,12 +1,14 @@
 // Replays a fixed list of sessions with the Rust's answers, read from standard input, and prints how many agree. harness/README.md
 // has the list's form: records of a session and the words of its answer.
 use answers::Place;
+use answers::WORD_BYTES;
 use answers::numbers;
 use answers::reply;
 use answers::word;
 use definition::sizes::ACTIONS_BYTES;
 use definition::sizes::CLEARS_BYTES;
 use definition::sizes::DISCARDS_BYTES;
+use definition::sizes::MAX_PASSES;
 use definition::sizes::MAX_SURFACES;
 use definition::sizes::ROWS_BYTES;
 use desk::deskcheck_pass;
@@ -22,6 +24,8 @@ use wire::u32_at;
 ghost use mathlib.Core.Path.{_≡_};
 ghost use Prim.Native.Nat.{_≤_, _<_};
 ghost use lib.ListN.{length};
+ghost use Rattle.definition.specs.Sizes.{maxPasses};
+ghost use Rattle.replay.specs.Room.{listBytes};
 
 // The next words are those of the end of pass k: a submission, if a buffer ends there.
 fn submission(
@@ -42,7 +46,13 @@ fn submission(
     let surfaces = surfaces_before(session, texture_count(session)) as u32;
     let marked = word(list, p, 1);
     let counted = word(list, marked, surfaces);
-    let q = numbers(list, counted, status, 0, (surfaces + 3) / 4);
+    let q = numbers(
+        list,
+        counted,
+        status,
+        0,
+        (surfaces + WORD_BYTES as u32 - 1) / WORD_BYTES as u32,
+    );
     Place {
         at: q.at,
         same: q.same & (number == 0),
@@ -62,7 +72,7 @@ fn pass(
     clears: &mut [u8],
     status: &mut [u8],
 ) -> Place
-    requires { ⌜ k < 100 ⌝ }
+    requires { ⌜ k < maxPasses ⌝ }
 {
     let r = deskcheck_pass(session, k, discards, actions, clears, status);
     let q = reply(list, p, k, r, rows, clears, discards);
@@ -93,7 +103,7 @@ fn passes(
     let count = pass_count(session);
     let mut q = p;
     let mut k: u32 = 0;
-    while k < 100 {
+    while k < MAX_PASSES {
         if k >= count {
             return q;
         }
@@ -146,17 +156,17 @@ fn record(list: &[u8], at: usize) -> Place
 {
     let n = list.len();
     let cut = Place { at: n, same: false };
-    if n - at < 8 {
+    if n - at < 2 * WORD_BYTES {
         return cut;
     }
-    let start = at + 4;
+    let start = at + WORD_BYTES;
     let bytes = u32_at(list, at) as usize;
-    if n - start - 4 < bytes {
+    if n - start - WORD_BYTES < bytes {
         return cut;
     }
     let end = start + bytes;
-    let first = end + 4;
-    let words = 4 * u32_at(list, end) as usize;
+    let first = end + WORD_BYTES;
+    let words = WORD_BYTES * u32_at(list, end) as usize;
     if n - first < words {
         return cut;
     }
@@ -200,11 +210,14 @@ fn replay(list: &[u8]) -> Tally {
     }
 }
 
+// Bytes that the list fits in.
+const LIST_BYTES: usize = 600000;
+
 // Room for the list.
-fn room() -> [u8; 600000]
-    ensures { λ r. ⌜ 600000 ≡ length r ⌝ }
+fn room() -> [u8; LIST_BYTES]
+    ensures { λ r. ⌜ listBytes ≡ length r ⌝ }
 {
-    [0; 600000]
+    [0; LIST_BYTES]
 }
 
 // Reads the list from standard input, and prints how many sessions agree.

@@ -8,7 +8,6 @@ use mathlib.Core.List.{List, [], _∷_}
 use lib.Dec.{eqb, ltb}
 use lib.ListN.{length, take, length-map}
 use lib.Seq.{take-all}
-use Rattle.definition.specs.Sizes.{maxSurfaces, surfaceNumbers, actionNumbers, discardsBytes, actionsBytes, clearsBytes, maxAttachments}
 use Rattle.definition.specs.Session.{Session, Pass, session}
 use Rattle.definition.specs.Readable.{sessionRefusal}
 use Rattle.definition.specs.Sizes.{maxSurfaces, countBytes, surfaceNumbers, actionNumbers, maxAttachments, discardsBytes, actionsBytes, clearsBytes}

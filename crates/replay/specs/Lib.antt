@@ -1,0 +1,2 @@
+-- The root of what this program means.
+pub mod Room
