@@ -64,7 +64,7 @@ abbrev pub numbersOf : ℕ → ℕ
 numbersOf n = cond (ltb maxClears n) 0 (surfaceNumbers * n)
 
 -- The same words, compared in two ways.
-abbrev pub both : Place → Place → Place
+abbrev both : Place → Place → Place
 both p q = record { at = q .at; same = p .same && q .same }
 
 -- The next words are those of pass k: a mark, its line by the rows and by the reply, what follows, the clears and the discards.

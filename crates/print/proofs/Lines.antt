@@ -36,7 +36,8 @@ count-goes k n h l =
     rw e (simp (le-ltb n 10 l))
 
 -- A digit that is written is the first of those that are left.
-pub digit-more : {l l′ : List ℕ} {p p′ b : ℕ} (m k n : ℕ) → k ≡ suc m → b ≡ zeroDigit + n / 10 ^ m % 10 → Put l p (b ∷ []) l′ p′ → sets l′ p′ (digits m n) ≡ sets l p (digits k n)
+pub digit-more : {l l′ : List ℕ} {p p′ b : ℕ} (m k n : ℕ) → k ≡ suc m → b ≡ zeroDigit + n / 10 ^ m % 10 → Put l p (b ∷ []) l′ p′
+    → sets l′ p′ (digits m n) ≡ sets l p (digits k n)
 unfolding digits
 digit-more m k n e d put = rw (put .behind, put .bytes, d, e, add-one)
 
@@ -63,7 +64,8 @@ unfolding numbersAt joined
 number-first b at x e put = put-as (ap decimal (e ∙ ap (u32At b) (sym (add-zero at)))) put
 
 -- The first i numbers of a row, and one number more.
-pub number-more : {l m n : List ℕ} {f p q : ℕ} (b : List ℕ) (at i x : ℕ) → 0 < i → Put l f (joined (numbersAt b at i)) m p → x ≡ u32At b (at + 4 * i) → Put m p (space ∷ decimal x) n q
+pub number-more : {l m n : List ℕ} {f p q : ℕ} (b : List ℕ) (at i x : ℕ) → 0 < i → Put l f (joined (numbersAt b at i)) m p → x ≡ u32At b (at + 4 * i)
+    → Put m p (space ∷ decimal x) n q
     → Put l f (joined (numbersAt b at (i + 1))) n q
 unfolding numbersAt
 number-more b at i x h so-far e put =
@@ -81,7 +83,8 @@ lines-more [] l = append-nil (lineText l)
 lines-more (a ∷ ls) l = ap (λ t. lineText a ++ t) (lines-more ls l) ∙ sym (append-assoc (lineText a) (linesText ls) (lineText l))
 
 -- The lines of the first k rows, and one line more.
-pub row-more : {l m n : List ℕ} {p q : ℕ} (b : List ℕ) (k : ℕ) → Put l 0 (linesText (rowsIn b k)) m p → Put m p (lineText (numbersAt b (rowBytes * k) rowNumbers)) n q → Put l 0 (linesText (rowsIn b (k + 1))) n q
+pub row-more : {l m n : List ℕ} {p q : ℕ} (b : List ℕ) (k : ℕ) → Put l 0 (linesText (rowsIn b k)) m p → Put m p (lineText (numbersAt b (rowBytes * k) rowNumbers)) n q
+    → Put l 0 (linesText (rowsIn b (k + 1))) n q
 row-more b k so-far put =
     put-as
     (sym (lines-more (rowsIn b k) (numbersAt b (rowBytes * k) rowNumbers)) ∙ ap linesText (sym (rows-next b k)))

@@ -19,7 +19,8 @@ use Rattle.print.specs.Output.{output}
 use Rattle.print.proofs.Long.{long-refused}
 
 -- The rows of a readable session, as lines.
-pub printed-rows : (s rows : List ℕ) (n : ℕ) → sessionRefusal s ≡ 0 → n ≡ session s .passCount → rowsIn rows (session s .passCount) ≡ deskcheck s → linesText (rowsIn rows n) ≡ output s
+pub printed-rows : (s rows : List ℕ) (n : ℕ) → sessionRefusal s ≡ 0 → n ≡ session s .passCount → rowsIn rows (session s .passCount) ≡ deskcheck s
+    → linesText (rowsIn rows n) ≡ output s
 unfolding output
 printed-rows s rows n z p q = ap (λ k. linesText (rowsIn rows k)) p ∙ ap linesText q ∙ simp (eq-eqb (sessionRefusal s) 0 z)
 

@@ -12,7 +12,7 @@ use Rattle.print.specs.Text.{refusalText}
 use Rattle.print.specs.Output.{output}
 use Rattle.print.specs.Oversize.{lengthBound, oversizeNumber}
 
--- So many bytes are enough of a file of so many: all of them, or more than any session has.
+-- `held` bytes are enough of a file of `bytes` bytes: all of them, or more than any session has.
 abbrev pub Enough : ℕ → ℕ → Type 0
 Enough held bytes = (held ≡ bytes) ⊎ ((longestSession < held) × (held ≤ bytes))
 
@@ -20,10 +20,11 @@ Enough held bytes = (held ≡ bytes) ⊎ ((longestSession < held) × (held ≤ b
 pub record Holds (buffer : List ℕ) (held bytes : ℕ) (file : List ℕ) : Type 0 where
   -- As far as the buffer goes, its bytes are the file's.
   pub front : take held file ≡ take held buffer
-  -- The file has so many bytes; or it has more than any length field says, and so many are told.
+  -- The file has so many bytes; or both numbers are past every length field.
   pub counted : (length file ≡ bytes) ⊎ ((lengthBound ≤ length file) × (lengthBound ≤ bytes))
 
--- The text for what is held: for no more bytes than a session may have, as they are the file; for more, the refusal.
+-- The text for what is held. No more bytes than the longest session has are taken for the file; of more, the refusal is told from the
+-- length field and the length.
 unfoldable pub heldText : List ℕ → ℕ → ℕ → List ℕ
 heldText buffer held bytes =
     cond (leb held longestSession) (output (take held buffer)) (refusalText (oversizeNumber (totalLength buffer) bytes))

@@ -40,10 +40,11 @@ pub record Says (n : ℕ) (text : List ℕ) : Type 0 where
   pub number : reads 0 text ≡ n
   pub no-leading-zero : 0 < n → getD text 0 0 ≢ zeroDigit
 
+-- What stands between two numbers, and what ends a line.
 abbrev pub space : ℕ
 space = 32
 
-abbrev pub newline : ℕ
+abbrev newline : ℕ
 newline = 10
 
 -- Numbers with one space between them.

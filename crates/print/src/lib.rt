@@ -38,13 +38,14 @@ fn print_session(session: &[u8], out: &mut [u8]) -> usize
     put_lines(&rows, pass_count(session) as usize, out)
 }
 
-// A file of so many bytes, of which the buffer holds the first: the whole file, or more than any session has.
-// For every such file the text is the definition's.
+// A file of `bytes` bytes, of which the buffer holds the first `held`: the whole file, or more than any session has.
+// The text is told from these for any bytes; of every file that they are of, it is the definition's.
 pub fn print_file(buffer: &[u8], held: usize, bytes: u64, out: &mut [u8]) -> usize
     requires { ⌜ (held ≤ length (now buffer)) × Enough held bytes ⌝ }
     requires { ⌜ printedBytes ≤ length (now out) ⌝ }
     ensures { λ r. ⌜ Printed (now (out .entry)) (heldText (now (buffer .entry)) held bytes) (now (out .exit)) r ⌝ }
-    ensures { λ r. ⌜ ((file : List ℕ) → Holds (now (buffer .entry)) held bytes file → take r (now (out .exit)) ≡ output file) ⌝ }
+    ensures { λ r. ⌜ ((file : List ℕ) → Holds (now (buffer .entry)) held bytes file →
+        take r (now (out .exit)) ≡ output file) ⌝ }
 {
     if held <= LONGEST_SESSION {
         return print_session(&buffer[..held], out);

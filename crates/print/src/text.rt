@@ -1,4 +1,5 @@
-// What `deskcheck` prints, as bytes. Each function writes a text at a place, leaves every other byte, and answers the place behind the text.
+// What `deskcheck` prints, as bytes. Each function writes a text at a place, leaves every other byte, and answers the place behind
+// the text.
 use definition::sizes::ROW_BYTES;
 use definition::sizes::ROW_NUMBERS;
 use wire::u32_at;
@@ -100,7 +101,9 @@ fn put_next(out: &mut [u8], at: usize, n: u32) -> usize
 // The numbers of row k, with spaces between: one byte less than a line at most.
 fn put_row(rows: &[u8], k: usize, out: &mut [u8], at: usize) -> usize
     requires { ⌜ (rowBytes * k + rowBytes ≤ length (now rows)) × (at + T.lineBytes ≤ length (now out)) ⌝ }
-    ensures { λ r. ⌜ Put (now (out .entry)) at (T.joined (numbersAt (now (rows .entry)) (rowBytes * k) rowNumbers)) (now (out .exit)) r ⌝ }
+    ensures { λ r. ⌜
+        (let row = numbersAt (now (rows .entry)) (rowBytes * k) rowNumbers in
+        Put (now (out .entry)) at (T.joined row) (now (out .exit)) r) ⌝ }
     ensures { λ r. ⌜ r < at + T.lineBytes ⌝ }
 {
     let first = ROW_BYTES * k;
@@ -116,7 +119,9 @@ fn put_row(rows: &[u8], k: usize, out: &mut [u8], at: usize) -> usize
 // The line of row k.
 fn put_line(rows: &[u8], k: usize, out: &mut [u8], at: usize) -> usize
     requires { ⌜ (rowBytes * k + rowBytes ≤ length (now rows)) × (at + T.lineBytes ≤ length (now out)) ⌝ }
-    ensures { λ r. ⌜ Put (now (out .entry)) at (T.lineText (numbersAt (now (rows .entry)) (rowBytes * k) rowNumbers)) (now (out .exit)) r ⌝ }
+    ensures { λ r. ⌜
+        (let row = numbersAt (now (rows .entry)) (rowBytes * k) rowNumbers in
+        Put (now (out .entry)) at (T.lineText row) (now (out .exit)) r) ⌝ }
     ensures { λ r. ⌜ r ≤ at + T.lineBytes ⌝ }
 {
     let p = put_row(rows, k, out, at);

@@ -10,7 +10,8 @@ use Rattle.print.proofs.text.put_decimal.Tie as tie
 returns : tie.Need-returns
 unfolding decimal
 returns c =
-    (put-as (simp (c .before .before .before .places .ensures .0)) (c .before .before .put-digits .ensures .0), (omega arith, decimal-says _ (omega arith)))
+    let counted = c .before .before .before in
+    (put-as (simp (counted .places .ensures .0)) (c .before .before .put-digits .ensures .0), (omega arith, decimal-says _ (omega arith)))
 
 pub put-decimal-spec : {M : Type 1} → statement M
 put-decimal-spec = tie.close (tie.spec (λ c κs. search needs) (λ c κs. search needs) (λ c. search needs) returns)
