@@ -13,7 +13,7 @@ returns : tie.Need-returns
 returns c =
     let called = c .before .before .before .before .before .before .deskcheck-session in
     let number = c .before .before .before .before .if1 .taken in
-    printed (put-as (printed-refusal _ _ (called .ensures .0) number) (c .before .before .put-refusal .ensures .0)) (omega arith)
+    printed (put-as (printed-refusal _ _ (called .ensures .number) number) (c .before .before .put-refusal .ensures .0)) (omega arith)
 
 same-length : tie.Need-same-length
 same-length c = search needs
@@ -22,7 +22,7 @@ put-lines-requires : tie.Need-put-lines-requires
 put-lines-requires c κs =
     let counted = c .before in
     let called = counted .before .before .before .before .deskcheck-session in
-    let accepted = sym (called .ensures .0) ∙ counted .before .before .if1 .left in
+    let accepted = sym (called .ensures .number) ∙ counted .before .before .if1 .left in
     let few : counted .pass-count .result ≤ maxPasses = rows-few _ _ accepted (counted .pass-count .ensures) in
     (omega (arith, few, called .kept .1 .0), omega (arith, few))
 
@@ -31,10 +31,10 @@ returns-2 c =
     let counted = c .before .before .before .before in
     let called = counted .before .before .before .before .deskcheck-session in
     let number = counted .before .before .if1 .left in
-    let accepted = sym (called .ensures .0) ∙ number in
+    let accepted = sym (called .ensures .number) ∙ number in
     let few : counted .pass-count .result ≤ maxPasses = rows-few _ _ accepted (counted .pass-count .ensures) in
     printed
-    (put-as (printed-rows _ _ _ accepted (counted .pass-count .ensures) (called .ensures .1 .0 number .lines)) (c .before .before .put-lines .ensures .0))
+    (put-as (printed-rows _ _ _ accepted (counted .pass-count .ensures) (called .ensures .rows number .lines)) (c .before .before .put-lines .ensures .0))
     (omega (arith, few))
 
 pub print-session-spec : {M : Type 1} → statement M
