@@ -6,9 +6,9 @@ use mathlib.Core.List.{List, [], append-nil}
 use Prim.Native.Nat.{ℕ, _+_, _*_, _≤_, _<_}
 use native.Mathlib.Omega.{arith}
 use lib.Dec.{ltb}
-use lib.ListN.{length, take}
+use lib.ListN.{length}
 use borrow.Author.Tests.{lt-ltb, le-ltb, eqb-true}
-use Rattle.definition.specs.Sizes.{maxDiscards, maxActions, maxAdded, countBytes, surfaceNumbers, actionNumbers}
+use Rattle.definition.specs.Sizes.{maxDiscards, maxActions, maxAdded, surfaceNumbers, actionNumbers}
 use Rattle.definition.specs.Session.{session}
 use Rattle.definition.specs.Readable.{sessionRefusal}
 use Rattle.definition.specs.Verdict.{nowhere, isFine, refusedAt}
@@ -21,10 +21,9 @@ use Rattle.laws.proofs.Records.{records-length}
 use Rattle.records.specs.Lent.{decodeSurface, decodeAction, surfaces}
 use Rattle.memory_init.specs.declared.Counts.{Counts}
 use Rattle.memory_init.specs.Lent.{held}
-use Rattle.lent.specs.Numbers.{numbersAt}
 use Rattle.lent.specs.Packed.{countIn, numbersIn}
 use Rattle.lent.specs.State.{surfacesIn, actionsIn}
-use Rattle.lent.specs.Judged.{Packed}
+use Rattle.lent.specs.Judged.{Unpacked, Packed}
 use Rattle.lent.proofs.Packing.{unpacked-all, packed-behind, packed-whole, packed-rest}
 use Rattle.render.specs.declared.PassReply.{PassReply}
 use Rattle.render.specs.declared.PassOutcome.{PassOutcome}
@@ -106,7 +105,7 @@ module _ (s : List ℕ) (i : ℕ) (n : Counts) (o : PassOutcome) (x x′ y y′ 
 
   -- The first of the numbers x are those of the lent discards.
   module _ (l : ListBytes) (r : Reply) (asked : CheckLent s i l n)
-      (taken : take (surfaceNumbers * n .discards) x ≡ numbersAt (l .discards) countBytes (surfaceNumbers * n .discards)) where
+      {x₀ : List ℕ} (taken : Unpacked surfaceNumbers (n .discards) (l .discards) x₀ x) where
     unpacked : surfaces (n .discards) x ≡ surfacesIn (l .discards)
     unpacked = unpacked-all surfaceNumbers decodeSurface (n .discards) x (l .discards) (ap (λ (q : Counts). q .discards) (asked .counts)) taken
 
