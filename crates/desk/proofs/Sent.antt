@@ -5,7 +5,8 @@ use mathlib.Core.Bool.{true, false}
 use mathlib.Core.List.{List, []}
 use Prim.Native.Nat.{ℕ, _*_, _≤_}
 use native.Mathlib.Omega.{arith}
-use lib.ListN.{length, drop}
+use native.Mathlib.Nat.{le-refl}
+use lib.ListN.{length, take, drop}
 use Rattle.definition.specs.Sizes.{countBytes, surfaceNumbers, actionNumbers}
 use Rattle.definition.specs.Session.{session, surfacesOf}
 use Rattle.definition.specs.Readable.{sessionRefusal}
@@ -15,11 +16,16 @@ use Rattle.laws.specs.Records.{records}
 use Rattle.wire.specs.Writing.{putNumber}
 use Rattle.wire.proofs.Writing.{put-read}
 use Rattle.memory_init.specs.declared.Counts.{Counts}
-use Rattle.records.specs.Lent.{surfaces, actions}
+use Rattle.records.specs.Lent.{decodeSurface, decodeAction, surfaces, actions}
 use Rattle.lent.specs.Numbers.{numbersAt}
 use Rattle.lent.specs.Packed.{countIn}
+use Rattle.lent.specs.Right.{countsIn}
 use Rattle.lent.specs.State.{surfacesIn, actionsIn}
 use Rattle.lent.proofs.Numbers.{number-past}
+use Rattle.lent.proofs.Packing.{not-short, unpacked-all}
+use Rattle.readable.proofs.Valid.{valid-of}
+use Rattle.submission.specs.Runs.{Submits}
+use Rattle.submission.proofs.Lent.{right-submits}
 use Rattle.desk.specs.Entry.{Buffers, buffers, heldIn, tooShort, numberIn, entry, Opened}
 use Rattle.desk.specs.Promise.{SubmitPromise}
 use Rattle.desk.proofs.Calls.{entry-short, entry-refused, entry-called, entry-not-lent}
@@ -62,17 +68,33 @@ none-listed b h =
 rest-stays : (b b′ : List ℕ) → b′ ≡ putNumber 4 b 0 0 → drop countBytes b′ ≡ drop countBytes b
 rest-stays b b′ e = ap (drop countBytes) e ∙ number-past b 0 0 4 countBytes (omega arith)
 
-module _ (s d a c b : List ℕ) (d′ a′ b′ : List ℕ) where
-  -- The counts are written, and the status bytes are made of the numbers x and y, which hold the discards and actions that are lent.
-  pub sent-all : (n : Counts) (x y : List ℕ) → Opened s (buffers d a c b) → lentRight (session s) (heldIn (buffers d a c b)) ≡ true → countBytes ≤ length d → countBytes ≤ length a
-      → surfaces (n .discards) x ≡ surfacesIn d → actions (n .actions) y ≡ actionsIn a → d′ ≡ putNumber 4 d 0 0 → a′ ≡ putNumber 4 a 0 0
+-- Of what is right the counts are n, and the first of the numbers x and y are those of its discards and actions.
+module _ (s d a c b : List ℕ) (n : Counts) (x y : List ℕ) (opened : Opened s (buffers d a c b)) (right : lentRight (session s) (heldIn (buffers d a c b)) ≡ true) (counts : n ≡ countsIn d a c)
+    (xs : take (surfaceNumbers * n .discards) x ≡ numbersAt d countBytes (surfaceNumbers * n .discards))
+    (ys : take (actionNumbers * n .actions) y ≡ numbersAt a countBytes (actionNumbers * n .actions)) where
+  discards-held : surfaces (n .discards) x ≡ surfacesIn d
+  discards-held = unpacked-all surfaceNumbers decodeSurface (n .discards) x d (ap (λ (q : Counts). q .discards) counts) xs
+
+  actions-held : actions (n .actions) y ≡ actionsIn a
+  actions-held = unpacked-all actionNumbers decodeAction (n .actions) y a (ap (λ (q : Counts). q .actions) counts) ys
+
+  -- They can be submitted.
+  pub sent-submits : surfaceNumbers * n .discards ≤ length x → actionNumbers * n .actions ≤ length y → Submits (session s) n x y b
+  sent-submits lx ly =
+      let valid = valid-of s (opened .readable) in
+      right-submits (session s) (heldIn (buffers d a c b)) n x y b right (sym discards-held) (sym actions-held) (valid .textures) (valid .surfaces (session s .textureCount) (le-refl (session s .textureCount)))
+      (not-short d a c b (opened .long) .status) lx ly
+
+  -- The counts are written, and the status bytes are made of the numbers.
+  pub sent-all : (d′ a′ b′ : List ℕ) → d′ ≡ putNumber 4 d 0 0 → a′ ≡ putNumber 4 a 0 0
       → b′ ≡ submitBytes (actions (n .actions) y) (surfaces (n .discards) x) (surfacesOf (session s)) b
       → length d′ ≡ length d → length a′ ≡ length a → length b′ ≡ length b → SubmitPromise s (buffers d a c b) 0 (buffers d′ a′ c b′)
-  sent-all n x y o h ld la discards actions ed ea eb nd na nb =
-      let no-discards : surfacesIn d′ ≡ [] = ap surfacesIn ed ∙ none-listed d ld .0 in
-      let no-actions : actionsIn a′ ≡ [] = ap actionsIn ea ∙ none-listed a la .1 in
-      let bytes = eb ∙ (λ q. submitBytes (actions q) (discards q) (surfacesOf (session s)) b) in
-      let step = entry-called s submit (buffers d a c b) o h in
+  sent-all d′ a′ b′ ed ea eb nd na nb =
+      let long = not-short d a c b (opened .long) in
+      let no-discards : surfacesIn d′ ≡ [] = ap surfacesIn ed ∙ none-listed d (omega (arith, long .discards)) .0 in
+      let no-actions : actionsIn a′ ≡ [] = ap actionsIn ea ∙ none-listed a (omega (arith, long .actions)) .1 in
+      let bytes = eb ∙ (λ q. submitBytes (actions-held q) (discards-held q) (surfacesOf (session s)) b) in
+      let step = entry-called s submit (buffers d a c b) opened right in
       record {
         number = ap (λ (q : Step). numberIn (q .answer)) (sym step);
         state = (λ q. record { lists = record { discards = no-discards q; actions = no-actions q; clears = surfacesIn c }; status = bytes q })
