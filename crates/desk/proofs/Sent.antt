@@ -6,7 +6,7 @@ use mathlib.Core.List.{List, []}
 use Prim.Native.Nat.{ℕ, _*_, _≤_}
 use native.Mathlib.Omega.{arith}
 use native.Mathlib.Nat.{le-refl}
-use lib.ListN.{length, take, drop}
+use lib.ListN.{length, drop}
 use Rattle.definition.specs.Sizes.{countBytes, surfaceNumbers, actionNumbers}
 use Rattle.definition.specs.Session.{session, surfacesOf}
 use Rattle.definition.specs.Readable.{sessionRefusal}
@@ -21,6 +21,7 @@ use Rattle.lent.specs.Numbers.{numbersAt}
 use Rattle.lent.specs.Packed.{countIn}
 use Rattle.lent.specs.Right.{countsIn}
 use Rattle.lent.specs.State.{surfacesIn, actionsIn}
+use Rattle.lent.specs.Judged.{Unpacked}
 use Rattle.lent.proofs.Numbers.{number-past}
 use Rattle.lent.proofs.Packing.{not-short, unpacked-all}
 use Rattle.readable.proofs.Valid.{valid-of}
@@ -70,8 +71,7 @@ rest-stays b b′ e = ap (drop countBytes) e ∙ number-past b 0 0 4 countBytes 
 
 -- Of what is right the counts are n, and the first of the numbers x and y are those of its discards and actions.
 module _ (s d a c b : List ℕ) (n : Counts) (x y : List ℕ) (opened : Opened s (buffers d a c b)) (right : lentRight (session s) (heldIn (buffers d a c b)) ≡ true) (counts : n ≡ countsIn d a c)
-    (xs : take (surfaceNumbers * n .discards) x ≡ numbersAt d countBytes (surfaceNumbers * n .discards))
-    (ys : take (actionNumbers * n .actions) y ≡ numbersAt a countBytes (actionNumbers * n .actions)) where
+    {x₀ y₀ : List ℕ} (xs : Unpacked surfaceNumbers (n .discards) d x₀ x) (ys : Unpacked actionNumbers (n .actions) a y₀ y) where
   discards-held : surfaces (n .discards) x ≡ surfacesIn d
   discards-held = unpacked-all surfaceNumbers decodeSurface (n .discards) x d (ap (λ (q : Counts). q .discards) counts) xs
 
