@@ -33,7 +33,7 @@ example = file 8 0 1 (texture 3 2 4 1 1 1 16 ∷ []) (view 0 2 1 1 16 0 ∷ []) 
 abbrev registered : List ℕ
 registered = (0 ∷ 0 ∷ 1 ∷ 0 ∷ 1 ∷ 1 ∷ []) ++ (0 ∷ 0 ∷ 1 ∷ 0 ∷ 1 ∷ 0 ∷ [])
 
--- What stands where a call writes.
+-- What stands where a call is to write.
 abbrev nines : ℕ → List ℕ
 nines n = replicate n 9
 
@@ -55,7 +55,7 @@ accepted i b b′ o h fine left rest lengths status =
       status = status;
     }
 
--- Behind that, x, y, z and w are anything.
+-- The buffers before and after each call. Behind what the calls write, x, y, z and w are anything.
 module _ (x y z w : List ℕ) where
   abbrev first : Buffers
   first = buffers (words (0 ∷ nines 3) ++ x) (words (0 ∷ nines 12) ++ y) (words (0 ∷ nines 3) ++ z) (0 ∷ w)
@@ -132,7 +132,13 @@ module _ (x y z w : List ℕ) where
         flat zero h = λ e. omega arith
         flat (suc k) h = absurd (omega arith)
 
--- Buffers that are longer than they must be.
-pub longer : tooShort (first (nines actionsBytes) (nines actionsBytes) (nines actionsBytes) (nines actionsBytes)) ≡ false
+-- With as many nines behind each as make it longer than it must be: a run, and nothing is left open.
+abbrev spare : List ℕ
+spare = nines actionsBytes
+
+longer : tooShort (first spare spare spare spare) ≡ false
 unfolding short
 longer = refl
+
+pub there-is-a-run : Run example (first spare spare spare spare) (turns spare spare spare spare)
+there-is-a-run = run spare spare spare spare longer
