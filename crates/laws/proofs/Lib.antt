@@ -10,6 +10,7 @@ pub mod Places
 pub mod Submission
 pub mod Room
 pub mod Views
+pub mod Readable
 pub mod Lent
 pub mod Records
 pub mod Compact

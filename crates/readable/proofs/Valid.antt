@@ -1,4 +1,4 @@
--- A refusal of 0 means that all four tests hold; each fact is one test of their conjunctions, and row k of a table is one of
+-- A session that is not refused passes the four tests; each fact is one test of their conjunctions, and row k of a table is one of
 -- the first n.
 use mathlib.Core.Path.{_≡_, refl, sym, _∙_}
 use mathlib.Core.Bool.{Bool, true, false, _&&_, _||_, cond}
@@ -12,39 +12,16 @@ use borrow.Author.Tests.{leb-true, ltb-true, eqb-true}
 use Rattle.definition.specs.Sizes.{headerBytes, maxTextures, maxViews, maxPasses, maxSlots, maxMultiviews, maxFlags, maxSize, maxLayers, maxMips, maxUsage, maxSurfaces}
 use Rattle.definition.specs.Formats.{isFormat}
 use Rattle.definition.specs.Session.{Pass, Session, session, textureCount, textureOffset, viewCount, viewOffset, passCount, passOffset, maxColors, maxMultiview, flags, totalLength, viewStart, passStart, passEnd, isNone, arrayLayers, surfaceCount}
-use Rattle.definition.specs.Readable.{between, lengthRight, headerRight, samplesRight, textureRight, texturesRead, texturesRight, viewsRight, sessionRefusal, channelReads, depthStencilReads, resolveReads, slotReads, slotsRead, passReads}
+use Rattle.definition.specs.Readable.{between, lengthRight, headerRight, samplesRight, textureRight, texturesRead, texturesRight, sessionRefusal, channelReads, depthStencilReads, resolveReads, slotReads, slotsRead, passReads}
 use Rattle.definition.specs.declared.Texture.{Texture}
 use Rattle.definition.specs.declared.Slot.{Slot}
 use Rattle.laws.proofs.Tests.{clash, and-left, and-right, or-second}
 use Rattle.laws.proofs.Folds.{textures-each, views-each, slots-read-each, before-grows}
 use Rattle.laws.proofs.Places.{place-counted}
 use Rattle.laws.proofs.Views.{valid-view}
+use Rattle.laws.proofs.Readable.{tested}
 use Rattle.readable.specs.Valid.{ValidTexture, Valid, ValidSlot, ValidDepthStencil, ValidPass}
 use Rattle.laws.proofs.Conjunctions.{each}
-use Rattle.readable.proofs.Refusal.{refusalOf, refused-by}
-
--- ── the four tests
-
-record Passed (a b c d : Bool) : Type 0 where
-  pub first : a ≡ true
-  pub second : b ≡ true
-  pub third : c ≡ true
-  pub fourth : d ≡ true
-
-passed : (a b c d : Bool) → refusalOf a b c d ≡ 0 → Passed a b c d
-unfolding refusalOf
-passed true true true true e = record { first = refl; second = refl; third = refl; fourth = refl }
-passed true true true false e = absurd (omega (arith, e))
-passed true true false d e = absurd (omega (arith, e))
-passed true false c d e = absurd (omega (arith, e))
-passed false b c d e = absurd (omega (arith, e))
-
-tests : (s : List ℕ) → sessionRefusal s ≡ 0 → Passed (lengthRight s) (headerRight s) (texturesRight (session s)) (viewsRight (session s))
-tests s e = passed _ _ _ _ (refused-by s refl refl refl refl ∙ e)
-
--- Every view row can be read.
-pub views-right : (s : List ℕ) → sessionRefusal s ≡ 0 → viewsRight (session s) ≡ true
-views-right s e = tests s e .fourth
 
 -- ── a texture row
 
@@ -113,19 +90,19 @@ pub valid-of : (s : List ℕ) → sessionRefusal s ≡ 0 → Valid s
 unfolding session
 valid-of s e =
     let S = session s in
-    let t = tests s e in
-    let test = header-test s (t .second) in
-    let few = few-surfaces S (t .third) in
+    let t = tested s e in
+    let test = header-test s (t .header) in
+    let few = few-surfaces S (t .textures) in
     record {
-      bytes = sym (whole s (t .first)) ∙ sym (eqb-true (passEnd s) (totalLength s) (test 9));
+      bytes = sym (whole s (t .length)) ∙ sym (eqb-true (passEnd s) (totalLength s) (test 9));
       textures = leb-true (textureCount s) maxTextures (test 0);
       views = leb-true (viewCount s) maxViews (test 2);
       passes = leb-true (passCount s) maxPasses (test 4);
       colors = within 1 maxSlots (maxColors s) (test 6);
       multiview = leb-true (maxMultiview s) maxMultiviews (test 7);
       flags = leb-true (flags s) maxFlags (test 8);
-      texture = λ k h. valid-texture (S .texture k) (textures-each S (S .textureCount) (texture-rows S (t .third)) k h);
-      view = λ k h. valid-view S (S .view k) (views-each S (S .viewCount) (t .fourth) k h);
+      texture = λ k h. valid-texture (S .texture k) (textures-each S (S .textureCount) (texture-rows S (t .textures)) k h);
+      view = λ k h. valid-view S (S .view k) (views-each S (S .viewCount) (t .views) k h);
       surfaces = λ n h. le-trans (before-grows S n (S .textureCount) h) few;
       surface = λ x i. lt-of-lt-of-le (place-counted S x i) few;
     }

@@ -8,7 +8,7 @@ use borrow.Author.Tests.{not-true, not-false}
 use Rattle.definition.specs.Session.{Session, session}
 use Rattle.definition.specs.Calls.{lentRight}
 use Rattle.lent.proofs.Packing.{not-short}
-use Rattle.noninterference.proofs.Theorem.{readable}
+use Rattle.laws.proofs.Readable.{tested}
 use Rattle.desk.specs.Entry.{Buffers, buffers, heldIn}
 use Rattle.desk.proofs.Passed.{passed-not-lent, passed-none, passed-checked}
 use Rattle.desk.proofs.pass_lent.Statement.{statement}
@@ -82,7 +82,7 @@ check-lent-requires c κs =
     let asked = start (judged at) .pre in
     let long = not-short _ _ _ _ (asked .long) in
     record {
-      views = readable _ (asked .readable) .views;
+      views = tested _ (asked .readable) .views;
       there = there (c .before .before .before .before);
       counts = said .ensures .counts;
       within = said .ensures .within (not-false (said .result .right) (at .if1 .left));

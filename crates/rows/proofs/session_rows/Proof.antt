@@ -8,7 +8,8 @@ use Rattle.definition.specs.Sizes.{rowBytes}
 use Rattle.definition.specs.Session.{session}
 use Rattle.definition.specs.Calls.{noEntries}
 use Rattle.definition.specs.Program.{lines}
-use Rattle.readable.proofs.Valid.{valid-of, views-right}
+use Rattle.laws.proofs.Readable.{tested}
+use Rattle.readable.proofs.Valid.{valid-of}
 use Rattle.rows.specs.Rows.{rowsIn}
 use Rattle.rows.proofs.session_rows.Statement.{statement}
 use Rattle.rows.proofs.session_rows.Tie as tie
@@ -17,7 +18,7 @@ put-rows-requires : tie.Need-put-rows-requires
 put-rows-requires c κs =
     let start = c .before .before .before .before .before .before .before in
     let passes = c .before .before .before .before .pass-count .ensures in
-    (views-right _ (start .pre .0), (omega (arith, start .pre .1, passes, valid-of _ (start .pre .0) .passes), (search needs, (search needs, search needs))))
+    (tested _ (start .pre .0) .views, (omega (arith, start .pre .1, passes, valid-of _ (start .pre .0) .passes), (search needs, (search needs, search needs))))
 
 returns : tie.Need-returns
 returns c =
