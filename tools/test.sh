@@ -40,5 +40,11 @@ cat "$logs/definition-edits"
 count "$logs/definition-edits" "$status"
 suite bash harness/run-tests.sh
 
+# The audit is one test: it ends with 'audit: ok'.
+audit() {
+    if bash tools/audit.sh; then echo "1 passed, 0 failed"; else echo "0 passed, 1 failed"; fi
+}
+suite audit
+
 echo "$passed passed, $failed failed"
 [ "$failed" -eq 0 ] && [ "$passed" -gt 0 ]

@@ -112,10 +112,10 @@ pub const CLEARS_NUMBERS: usize = SURFACE_NUMBERS * MAX_CLEARS;
 pub const MAX_ATTACHMENTS: usize = 1 + 2 * (MAX_SLOTS as usize);
 
 // The most discards that a pass lists: depth-stencil, and each slot's colour.
-pub const MAX_LISTED: usize = 1 + (MAX_SLOTS as usize);
+const MAX_LISTED: usize = 1 + (MAX_SLOTS as usize);
 
 // The most actions that a pass adds: one an attachment, one for each discard that it finds or lists.
-pub const MAX_ADDED: usize = MAX_ATTACHMENTS + MAX_DISCARDS + MAX_LISTED;
+const MAX_ADDED: usize = MAX_ATTACHMENTS + MAX_DISCARDS + MAX_LISTED;
 
 // Numbers of the most actions that a pass adds.
 pub const ADDED_NUMBERS: usize = ACTION_NUMBERS * MAX_ADDED;

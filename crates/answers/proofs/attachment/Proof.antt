@@ -6,10 +6,7 @@ use Rattle.answers.proofs.attachment.Tie as tie
 
 returns : tie.Need-returns
 unfolding nextWords
-returns c =
-    let value = c .before .before .before in
-    let ops = value .before .before in
-    simp (c .word6 .ensures, c .before .word5 .ensures, c .before .before .bits-of-f32 .ensures, value .color .ensures, ops .word4 .ensures, ops .before .word3 .ensures, ops .before .before .word2 .ensures, ops .before .before .before .word .ensures)
+returns c = cc
 
 pub attachment-spec : {M : Type 1} → statement M
 attachment-spec =

@@ -6,9 +6,7 @@ use Rattle.answers.proofs.rest.Tie as tie
 
 returns : tie.Need-returns
 unfolding nextWords
-returns c =
-    let count = c .before .before in
-    simp (c .attachments .ensures, count .word4 .ensures, count .before .word3 .ensures, count .before .before .word2 .ensures, count .before .before .before .word .ensures)
+returns c = cc
 
 pub rest-spec : {M : Type 1} → statement M
 rest-spec =

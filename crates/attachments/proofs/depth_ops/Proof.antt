@@ -4,9 +4,7 @@ use Rattle.attachments.proofs.depth_ops.Statement.{statement}
 use Rattle.attachments.proofs.depth_ops.Tie as tie
 
 returns : tie.Need-returns
-returns c =
-    let c4 = c .before .before .before .before in
-    simp (c .channel .ensures, c .before .depth-resolved .ensures, c .before .before .depth .ensures, c .before .before .before .strict .ensures, c4 .has-depth .ensures)
+returns c = cc
 
 pub depth-ops-spec : {M : Type 1} → statement M
 depth-ops-spec =

@@ -4,9 +4,7 @@ use Rattle.attachments.proofs.depth_stencil_reply.Statement.{statement}
 use Rattle.attachments.proofs.depth_stencil_reply.Tie as tie
 
 returns : tie.Need-returns
-returns c =
-    let ops = c .before .before .before in
-    simp (c .clear-value2 .ensures, c .before .clear-value .ensures, c .before .before .black .ensures, ops .hal-ops2 .ensures, ops .before .hal-ops .ensures)
+returns c = cc
 
 pub depth-stencil-reply-spec : {M : Type 1} → statement M
 depth-stencil-reply-spec =

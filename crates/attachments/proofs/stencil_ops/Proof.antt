@@ -4,9 +4,7 @@ use Rattle.attachments.proofs.stencil_ops.Statement.{statement}
 use Rattle.attachments.proofs.stencil_ops.Tie as tie
 
 returns : tie.Need-returns
-returns c =
-    let c4 = c .before .before .before .before in
-    simp (c .channel .ensures, c .before .stencil-resolved .ensures, c .before .before .stencil .ensures, c .before .before .before .strict .ensures, c4 .has-stencil .ensures)
+returns c = cc
 
 pub stencil-ops-spec : {M : Type 1} → statement M
 stencil-ops-spec =

@@ -4,13 +4,7 @@ use Rattle.colors.proofs.same_extent.Statement.{statement}
 use Rattle.colors.proofs.same_extent.Tie as tie
 
 returns : tie.Need-returns
-returns c =
-    simp (
-      c .height-of2 .ensures,
-      c .before .height-of .ensures,
-      c .before .before .width-of2 .ensures,
-      c .before .before .before .width-of .ensures,
-    )
+returns c = cc
 
 pub same-extent-spec : {M : Type 1} → statement M
 same-extent-spec =

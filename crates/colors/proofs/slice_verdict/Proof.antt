@@ -6,19 +6,7 @@ use Rattle.colors.proofs.slice_verdict.Tie as tie
 
 returns : tie.Need-returns
 unfolding sliceVerdict
-returns c =
-    let c5 = c .before .before .before .before .before in
-    let c7 = c5 .before .before in
-    let c8 = c7 .before in
-    simp (
-      c .either .ensures,
-      c .before .then .ensures,
-      c .before .before .is-d3 .ensures,
-      c .before .before .before .unless3 .ensures,
-      c5 .unless2 .ensures,
-      c7 .depth-of .ensures,
-      c8 .unless .ensures,
-    )
+returns c = cc
 
 pub slice-verdict-spec : {M : Type 1} → statement M
 slice-verdict-spec =

@@ -6,10 +6,7 @@ use Rattle.readable.proofs.slot_reads.Tie as tie
 
 returns : tie.Need-returns
 unfolding slotReads
-returns c =
-    let c5 = c .before .before .before .before .before in
-    let c6 = c5 .before in
-    simp (c .before .before .resolve-reads .ensures, c5 .view-count .ensures, c6 .is-none .ensures)
+returns c = cc
 
 pub slot-reads-spec : {M : Type 1} → statement M
 slot-reads-spec =

@@ -6,12 +6,7 @@ use Rattle.readable.proofs.texture_right.Tie as tie
 
 returns : tie.Need-returns
 unfolding textureRight
-returns c =
-    let c4 = c .before .before .before .before in
-    let c5 = c4 .before in
-    let c8 = c5 .before .before .before in
-    let c9 = c8 .before in
-    simp (c .before .samples-right .ensures, c .before .before .between5 .ensures, c .before .before .before .between4 .ensures, c4 .between3 .ensures, c5 .between2 .ensures, c8 .between .ensures, c9 .is-format .ensures)
+returns c = cc
 
 pub texture-right-spec : {M : Type 1} → statement M
 texture-right-spec =

@@ -6,10 +6,7 @@ use Rattle.readable.proofs.view_in_texture.Tie as tie
 
 returns : tie.Need-returns
 unfolding viewInTexture
-returns c =
-    let c5 = c .before .before .before .before .before in
-    let c7 = c5 .before .before in
-    simp (c .before .usage-among .ensures, c .before .before .ends-by2 .ensures, c .before .before .before .array-layers .ensures, c5 .ends-by .ensures, c7 .dimension-fits .ensures)
+returns c = cc
 
 pub view-in-texture-spec : {M : Type 1} → statement M
 view-in-texture-spec =

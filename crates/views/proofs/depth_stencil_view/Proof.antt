@@ -6,13 +6,7 @@ use Rattle.views.proofs.depth_stencil_view.Tie as tie
 
 returns : tie.Need-returns
 unfolding depthStencilView
-returns c =
-    simp (
-      c .then .ensures,
-      c .before .add-view .ensures,
-      c .before .before .check-multiview .ensures,
-      c .before .before .before .none-seen .ensures,
-    )
+returns c = cc
 
 pub depth-stencil-view-spec : {M : Type 1} → statement M
 depth-stencil-view-spec =

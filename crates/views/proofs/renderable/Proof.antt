@@ -6,14 +6,7 @@ use Rattle.views.proofs.renderable.Tie as tie
 
 returns : tie.Need-returns
 unfolding renderable
-returns c =
-    let c4 = c .before .before .before .before in
-    simp (
-      c .before .is-d3 .ensures,
-      c .before .before .is-d2-array .ensures,
-      c .before .before .before .is-d2 .ensures,
-      c4 .render-attachment .ensures,
-    )
+returns c = cc
 
 pub renderable-spec : {M : Type 1} → statement M
 renderable-spec =

@@ -8,12 +8,7 @@ returns : tie.Need-returns
 returns c = no-eight _ _ (c .if1 .taken)
 
 returns-2 : tie.Need-returns-2
-returns-2 c =
-    let c4 = c .before .before .before .before in
-    let c5 = c4 .before in
-    let c6 = c5 .before in
-    let c7 = c6 .before in
-    simp (c .u32-at8 .ensures, c .before .u32-at7 .ensures, c .before .before .u32-at6 .ensures, c .before .before .before .u32-at5 .ensures, c4 .u32-at4 .ensures, c5 .u32-at3 .ensures, c6 .u32-at2 .ensures, c7 .u32-at .ensures)
+returns-2 c = cc
 
 pub eight-across-end-spec : {M : Type 1} → statement M
 eight-across-end-spec =

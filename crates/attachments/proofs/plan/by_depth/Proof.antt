@@ -4,9 +4,7 @@ use Rattle.attachments.proofs.plan.by_depth.Statement.{statement}
 use Rattle.attachments.proofs.plan.by_depth.Tie as tie
 
 returns : tie.Need-returns
-returns c =
-    let c3 = c .before .before .before in
-    simp (c .stores2 .ensures, c .before .stores .ensures, c .before .before .ignores2 .ensures, c3 .ignores .ensures, c3 .before .loads2 .ensures, c3 .before .before .loads .ensures)
+returns c = cc
 
 pub by-depth-spec : {M : Type 1} → statement M
 by-depth-spec =
