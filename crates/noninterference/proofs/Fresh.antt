@@ -1,4 +1,4 @@
--- A fresh state: each surface has its byte, and that is 0. The definition's own is fresh for a session of at most 4096 surfaces.
+-- A fresh state: each surface has its byte, and that is 0. The definition's own is fresh for a session of at most `maxSurfaces` surfaces.
 use mathlib.Core.Path.{_≡_, refl, sym, ap, _∙_}
 use mathlib.Core.Bool.{true}
 use mathlib.Core.List.{List, [], _∷_}

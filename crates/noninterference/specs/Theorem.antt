@@ -55,7 +55,7 @@ NeverSix =
     → (σ : State) → Fresh (session s) σ
     → (calls : List Call) → lentRight (session s) (after (session s) calls σ) ≡ true
 
--- The definition's `fresh`, with 4096 status bytes, is fresh for every readable session.
+-- The definition's `fresh`, with as many status bytes as there may be surfaces, is fresh for every readable session.
 abbrev pub FreshStarts : Type 0
 FreshStarts = (s : List ℕ) → sessionRefusal s ≡ 0 → Fresh (session s) fresh
 
