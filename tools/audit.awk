@@ -153,11 +153,12 @@ FILENAME ~ /\.rt$/ {
     }
 }
 
-# ── docs/DEFINITION.md: a row's file, and the names that it has of it
+# ── docs/DEFINITION.md: in its tables of files a row's file, and the names that it has of it
 
-FILENAME ~ /DEFINITION\.md$/ && /^\| / {
+FILENAME ~ /DEFINITION\.md$/ && !/^\|/ { of_files = 0 }
+FILENAME ~ /DEFINITION\.md$/ && /^\| File \|/ { of_files = 1; next }
+FILENAME ~ /DEFINITION\.md$/ && of_files && /^\| / {
     n = split($0, cell, " *\\| *")
-    if (cell[2] == "File" || cell[2] ~ /^-/) next
     if (cell[2] != "") {
         row_file = cell[2] ~ /\// ? cell[2] : "definition/" cell[2]
         crate = row_file

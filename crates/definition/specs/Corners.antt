@@ -54,6 +54,9 @@ textures =
     ∷ texture 3 2 4 1 1 4  -- 10: four samples
     ∷ transientTexture 22  -- 11: depth24plus
     ∷ transientTexture 20  -- 12: stencil8
+    ∷ texture 21 2 4 1 1 1  -- 13: depth16unorm
+    ∷ texture 24 2 4 1 1 1  -- 14: depth32float
+    ∷ texture 25 2 4 1 1 1  -- 15: depth32float-stencil8
     ∷ []
 
 abbrev views : List View
@@ -63,7 +66,10 @@ views =
     ∷ view 10 2 1 1
     ∷ transientView 11
     ∷ transientView 12
-    ∷ view 9 2 2 1  -- 13: both mips of texture 9
+    ∷ view 13 2 1 1
+    ∷ view 14 2 1 1
+    ∷ view 15 2 1 1
+    ∷ view 9 2 2 1  -- 16: both mips of texture 9
     ∷ []
 
 -- ── passes
@@ -105,8 +111,8 @@ stencilOf s = depthStencil 4 absent s
 -- By its flags.
 abbrev desk : ℕ → Session
 desk flags = record {
-  textureCount = 13;
-  viewCount = 14;
+  textureCount = 16;
+  viewCount = 17;
   passCount = 0;
   maxColors = 8;
   maxMultiview = 4;
@@ -192,6 +198,10 @@ cleared = colors (slot 0 noView 1 0 ∷ [])
 abbrev depthCleared : ℕ → Pass
 depthCleared bits = depthOf (channel 1 0 1 bits)
 
+-- Depth and stencil of view v, both Clear with Store.
+abbrev bothCleared : ℕ → Pass
+bothCleared v = depthStencil v (channel 1 0 1 0) (channel 1 0 1 0)
+
 abbrev stencilCleared : ℕ → Pass
 stencilCleared n = stencilOf (channel 1 0 1 n)
 
@@ -233,6 +243,10 @@ rows =
     ∷ row (depthStencil 4 (channel 0 2 0 0) absent ∷ depthStencil 4 (channel 3 1 0 0) absent ∷ depthStencil 4 absent (channel 0 0 0 0) ∷ [])
     (refusedChannel 25 ∷ refusedChannel 25 ∷ accepted 0 0 ∷ [])
     ∷ row (depthStencil 3 (channel 0 0 0 0) (channel 0 2 0 0) ∷ []) (refusedChannel 26 ∷ [])
+    -- both aspects cleared and stored, for each format in the order of W3C's table of depth-stencil formats, and for a colour: 25 without depth, 26 without
+    -- stencil, 13 with neither
+    ∷ row (map bothCleared (4 ∷ 13 ∷ 3 ∷ 5 ∷ 14 ∷ 15 ∷ 0 ∷ []))
+    (refusedChannel 25 ∷ refusedChannel 26 ∷ refusedChannel 26 ∷ accepted 0 0 ∷ refusedChannel 26 ∷ accepted 0 0 ∷ refusedChannel 13 ∷ [])
     -- 14 and 16: a transient channel not (Clear or DontCare) with Discard; 15 and 17: one that is read-only
     ∷ row (depthStencil 11 (channel 0 1 0 0) absent ∷ depthStencil 11 (channel 1 0 1 0) absent ∷ depthStencil 11 (readOnly 3 2) absent
     ∷ depthStencil 11 (channel 1 1 1 0) absent
@@ -244,8 +258,8 @@ rows =
     -- inviting: 35 names the view accepted last, not the first
     ∷ row (colors (slot 0 noView 1 0 ∷ slot 1 noView 1 0 ∷ slot 2 noView 1 0 ∷ []) ∷ []) (refused 35 2 1 ∷ [])
     -- inviting: a resolve target's overlap is tested before whether it is renderable
-    ∷ row (colors (slot 9 noView 1 0 ∷ []) ∷ colors (slot 8 13 1 0 ∷ []) ∷ []) (accepted 0 0 ∷ refused 34 8 17 ∷ [])
-    ∷ row (colors (slot 8 9 1 0 ∷ slot 10 13 1 0 ∷ []) ∷ []) (refused 41 9 17 ∷ [])
+    ∷ row (colors (slot 9 noView 1 0 ∷ []) ∷ colors (slot 8 16 1 0 ∷ []) ∷ []) (accepted 0 0 ∷ refused 34 8 17 ∷ [])
+    ∷ row (colors (slot 8 9 1 0 ∷ slot 10 16 1 0 ∷ []) ∷ []) (refused 41 9 17 ∷ [])
     -- depth and stencil that diverge: one discarded, one stored; a load of either needs; Clear with both stored is implicit
     ∷ rowOf (check (depthStencil 5 (channel 1 1 1 0) (channel 1 0 1 0)) ∷ submit ∷ check (depthStencil 5 (channel 1 0 1 0) (channel 0 1 0 0)) ∷ submit ∷ [])
     (accepted 0 0 ∷ (0 ∷ 0 ∷ 0 ∷ 0 ∷ 0 ∷ 1 ∷ []) ∷ accepted 0 0 ∷ (0 ∷ 0 ∷ 0 ∷ 0 ∷ 0 ∷ 1 ∷ []) ∷ [])

@@ -6,7 +6,7 @@ use lib.ListN.{length}
 use lib.Dec.{leb, ltb, eqb}
 use Rattle.definition.specs.Sizes.{headerBytes, maxTextures, maxViews, maxPasses, maxSlots, maxMultiviews, maxFlags, maxSize, maxLayers, maxMips, maxUsage, maxSurfaces}
 use Rattle.definition.specs.Bytes.{bit}
-use Rattle.definition.specs.Formats.{isFormat}
+use Rattle.definition.specs.Formats.{isColor, isFormat}
 use Rattle.definition.specs.Verdict.{nowhere, _then_, unless}
 use Rattle.definition.specs.Session.{Pass, Session, session, isNone, arrayLayers, surfaceCount, textureCount, textureOffset, viewCount, viewOffset, passCount, passOffset, maxColors, maxMultiview, flags, totalLength, viewStart, passStart, passEnd}
 use Rattle.definition.specs.declared.Verdict.{Verdict}
@@ -34,10 +34,10 @@ headerRight s =
 unfoldable pub samplesRight : ℕ → Bool
 samplesRight n = eqb n 1 || eqb n 2 || eqb n 4 || eqb n 8 || eqb n 16
 
--- Formats from 20 on need dimension 2.
+-- A depth-stencil format needs dimension 2.
 unfoldable pub textureRight : Texture → Bool
 textureRight t =
-    isFormat (t .format) && between 1 3 (t .dimension) && (ltb (t .format) 20 || eqb (t .dimension) 2)
+    isFormat (t .format) && between 1 3 (t .dimension) && (isColor (t .format) || eqb (t .dimension) 2)
     && between 1 maxSize (t .width) && between 1 maxSize (t .height) && between 1 maxLayers (t .depth)
     && between 1 maxMips (t .mips) && samplesRight (t .samples) && leb (t .usage) maxUsage
 

@@ -16,6 +16,12 @@ pub struct Texture {
     pub usage: u32,
 }
 
+// Whether a format has a depth and a stencil aspect.
+pub struct Aspects {
+    pub depth: bool,
+    pub stencil: bool,
+}
+
 // A view row: `mips` mips from `mip` on, `layers` layers from `layer` on.
 // Dimension: 1 D1, 2 D2, 3 D2Array, 4 Cube, 5 CubeArray, 6 D3.
 pub struct View {

@@ -1,5 +1,6 @@
 pub mod Tests
 pub mod Conjunctions
+pub mod Formats
 pub mod Verdicts
 pub mod Surfaces
 pub mod Overlap

@@ -24,6 +24,7 @@ use Rattle.definition.specs.declared.Surface.{Surface}
 use Rattle.definition.specs.declared.Verdict.{Verdict}
 use Rattle.definition.specs.declared.Progress.{Progress}
 use Rattle.laws.proofs.Tests.{clash, and-left, and-right, or-on-left, or-on-right, or-second}
+use Rattle.laws.proofs.Formats.{depth-color}
 use Rattle.laws.proofs.Surfaces.{hits-in, elem-append}
 use Rattle.laws.proofs.Overlap.{apart-elem}
 use Rattle.laws.proofs.Verdicts.{then-left, then-right, unless-on}
@@ -34,7 +35,7 @@ use Rattle.laws.specs.Surfaces.{RangeInside}
 use Rattle.laws.specs.Room.{reaches, reached}
 use Rattle.noninterference.proofs.Passes.{find, All, Distinct, all-map, all-append, distinct-append, reached-append}
 use Rattle.noninterference.proofs.Sound.{Sound, Fit}
-use Rattle.noninterference.proofs.Checked.{Single, Flat, ViewFacts, view-facts, takes-reached, strict-off, ColorFacts, target-facts, color-facts, depth-color, DepthFacts, depth-facts}
+use Rattle.noninterference.proofs.Checked.{Single, Flat, ViewFacts, view-facts, takes-reached, strict-off, ColorFacts, target-facts, color-facts, DepthFacts, depth-facts}
 
 -- ── one slot
 

@@ -4,11 +4,10 @@ use mathlib.Core.Path.{_≡_, refl, sym, ap, ap₂, subst, _∙_}
 use mathlib.Core.Bool.{Bool, true, false, not, _&&_, _||_, cond}
 use mathlib.Core.List.{List, [], _∷_, _++_}
 use mathlib.Core.Option.{Option, none, some}
-use Prim.Native.Nat.{ℕ, _+_, _<_, _≤_}
-use native.Mathlib.Omega.{arith}
-use lib.Dec.{leb, ltb, eqb}
+use Prim.Native.Nat.{ℕ, _+_, _<_}
+use lib.Dec.{ltb, eqb}
 use lib.Ieee.{Float}
-use borrow.Author.Tests.{eqb-true, eqb-false, ne-eqb, leb-true, le-leb, ltb-true}
+use borrow.Author.Tests.{eqb-true, ltb-true}
 use Rattle.definition.specs.Formats.{isColor, isDepthStencil, hasDepth, hasStencil}
 use Rattle.definition.specs.Surfaces.{hits, layersOf, elem, meets}
 use Rattle.definition.specs.Session.{Pass, Session, strict, formatOf, viewRange, isD2, isD2Array, isD3, transient}
@@ -27,7 +26,8 @@ use Rattle.definition.specs.declared.Seen.{Seen}
 use Rattle.definition.specs.declared.Surface.{Surface}
 use Rattle.laws.specs.Surfaces.{RangeInside}
 use Rattle.laws.specs.Views.{ValidView}
-use Rattle.laws.proofs.Tests.{clash, and-left, and-right, and-on, or-on-left, or-on-right, not-off}
+use Rattle.laws.proofs.Tests.{clash, and-on, not-off}
+use Rattle.laws.proofs.Formats.{color-depth, color-stencil, depth-color}
 use Rattle.laws.proofs.Surfaces.{hits-in, layers-all, named-one}
 use Rattle.laws.proofs.Verdicts.{then-left, then-right, unless-on}
 use Rattle.laws.proofs.Folds.{views-each}
@@ -35,42 +35,6 @@ use Rattle.laws.proofs.Views.{valid-view, range-surface, flat-view, renderable-
 use Rattle.noninterference.specs.Memory.{Aspect, colorAspect, depthAspect, stencilAspect, formatHas, Clear, ofColor, ofDepth, ofStencil, nothing, Part, partIn, useOf}
 use Rattle.noninterference.proofs.Plans.{inputOf, partOf, partsOf, plannedUse, hasPart, proper}
 use Rattle.noninterference.proofs.Sound.{Sound}
-
--- ── formats
-
--- A colour format has no other aspect.
-color-depth : (f : ℕ) → isColor f ≡ true → hasDepth f ≡ false
-unfolding isColor hasDepth
-color-depth f h = go (leb 21 f) refl
-  where
-    go : (b : Bool) → leb 21 f ≡ b → (b && leb f 25) ≡ false
-    go true e = absurd (omega (arith, leb-true 21 f e, leb-true f 14 (and-right (leb 1 f) (leb f 14) h)))
-    go false e = refl
-
-color-stencil : (f : ℕ) → isColor f ≡ true → hasStencil f ≡ false
-unfolding isColor hasStencil
-color-stencil f h =
-    let g : f ≤ 14 = leb-true f 14 (and-right (leb 1 f) (leb f 14) h) in
-    simp (ne-eqb f 20 (λ e. omega arith), ne-eqb f 23 (λ e. omega arith), ne-eqb f 25 (λ e. omega arith))
-
--- A depth-stencil format is no colour format, and has one of the two aspects.
-pub depth-color : (f : ℕ) → isDepthStencil f ≡ true → isColor f ≡ false
-unfolding isColor isDepthStencil
-depth-color f h = go (leb 1 f && leb f 14) refl
-  where
-    go : (b : Bool) → (leb 1 f && leb f 14) ≡ b → (leb 1 f && leb f 14) ≡ false
-    go true e = absurd (omega (arith, leb-true 20 f (and-left (leb 20 f) (leb f 25) h), leb-true f 14 (and-right (leb 1 f) (leb f 14) e)))
-    go false e = e
-
-depth-some : (f : ℕ) → isDepthStencil f ≡ true → (hasDepth f || hasStencil f) ≡ true
-unfolding isDepthStencil hasDepth hasStencil
-depth-some f h = go (eqb f 20) refl
-  where
-    go : (b : Bool) → eqb f 20 ≡ b → ((leb 21 f && leb f 25) || (eqb f 20 || eqb f 23 || eqb f 25)) ≡ true
-    go true e = or-on-right (leb 21 f && leb f 25) (eqb f 20 || eqb f 23 || eqb f 25) (rw e)
-    go false e =
-        or-on-left (leb 21 f && leb f 25) _
-        (and-on (leb 21 f) (leb f 25) (le-leb 21 f (omega (arith, eqb-false f 20 e, leb-true 20 f (and-left (leb 20 f) (leb f 25) h)))) (and-right (leb 20 f) (leb f 25) h))
 
 -- ── the parts of an attachment are its format's aspects
 
@@ -292,7 +256,7 @@ depth-facts S p known ops h =
     record {
       sound = λ st one. sound-of S (depthStencilOf S p v) (known .valid .range) mip (known .single one)
           (and-on ((hasDepth f || hasStencil f) && not (hasDepth f && ignores (depthOps S p f .load))) _
-          (and-on (hasDepth f || hasStencil f) _ (depth-some f ds)
+          (and-on (hasDepth f || hasStencil f) _ ds
           (subst (λ b. not (hasDepth f && ignores (resolvedOps (depthResolved (hasDepth f) b (p .depth)) .load)) ≡ true) (sym st) (depth-cares (hasDepth f) (p .depth))))
           (subst (λ b. not (hasStencil f && ignores (resolvedOps (stencilResolved (hasStencil f) b (p .stencil)) .load)) ≡ true) (sym st) (stencil-cares (hasStencil f) (p .stencil))))
           (depth-aspects f ds (hasDepth f) (hasStencil f) refl refl (partOf depthAspect ofDepth (depthOps S p f)) (partOf stencilAspect ofStencil (stencilOps S p f)) refl refl);

@@ -10,7 +10,7 @@ use lib.Dec.{leb, ltb, eqb}
 use lib.ListN.{length, getD}
 use borrow.Author.Tests.{leb-true, ltb-true, eqb-true}
 use Rattle.definition.specs.Sizes.{headerBytes, maxTextures, maxViews, maxPasses, maxSlots, maxMultiviews, maxFlags, maxSize, maxLayers, maxMips, maxUsage, maxSurfaces}
-use Rattle.definition.specs.Formats.{isFormat}
+use Rattle.definition.specs.Formats.{isColor, isFormat}
 use Rattle.definition.specs.Session.{Pass, Session, session, textureCount, textureOffset, viewCount, viewOffset, passCount, passOffset, maxColors, maxMultiview, flags, totalLength, viewStart, passStart, passEnd, isNone, arrayLayers, surfaceCount}
 use Rattle.definition.specs.Readable.{between, lengthRight, headerRight, samplesRight, textureRight, texturesRead, texturesRight, sessionRefusal, channelReads, depthStencilReads, resolveReads, slotReads, slotsRead, passReads}
 use Rattle.definition.specs.declared.Texture.{Texture}
@@ -40,7 +40,7 @@ layered t h = go (eqb (t .dimension) 3)
 
 abbrev textureTests : Texture → List Bool
 textureTests t =
-    isFormat (t .format) ∷ between 1 3 (t .dimension) ∷ (ltb (t .format) 20 || eqb (t .dimension) 2)
+    isFormat (t .format) ∷ between 1 3 (t .dimension) ∷ (isColor (t .format) || eqb (t .dimension) 2)
     ∷ between 1 maxSize (t .width) ∷ between 1 maxSize (t .height) ∷ between 1 maxLayers (t .depth)
     ∷ between 1 maxMips (t .mips) ∷ samplesRight (t .samples) ∷ leb (t .usage) maxUsage ∷ []
 

@@ -24,6 +24,7 @@ use session::depth_stencil;
 use session::derived::array_layers;
 use session::derived::is_none;
 use session::ends;
+use session::formats::is_color;
 use session::formats::is_format;
 use session::header::PASS_OFFSET;
 use session::header::TEXTURE_OFFSET;
@@ -92,13 +93,13 @@ fn samples_right(n: u32) -> bool
     (n == 1) | (n == 2) | (n == 4) | (n == 8) | (n == 16)
 }
 
-// Whether a texture row can be read. Formats from 20 on need dimension 2.
+// Whether a texture row can be read. A depth-stencil format needs dimension 2.
 fn texture_right(t: Texture) -> bool
     ensures { λ r. ⌜ r ≡ Re.textureRight t ⌝ }
 {
     is_format(t.format)
         & between(1, 3, t.dimension)
-        & ((t.format < 20) | (t.dimension == 2))
+        & (is_color(t.format) | (t.dimension == 2))
         & between(1, MAX_SIZE, t.width)
         & between(1, MAX_SIZE, t.height)
         & between(1, MAX_LAYERS, t.depth)

@@ -1,7 +1,9 @@
 // Texture formats by document 01's numbers, their aspects, and mip sizes. Every number has an answer: a number that is no
 // format has no aspect, and a mip past the last has size 1.
+use definition::Aspects;
 ghost use mathlib.Core.Path.{_≡_};
 ghost use Prim.Native.Nat.{_/_, _^_, _%_};
+ghost use Rattle.definition.specs.Formats as Fo;
 ghost use Rattle.definition.specs.Formats.{isColor, isDepthStencil, isFormat, hasDepth, hasStencil, mipSize};
 
 // W3C "Plain color formats": 1 r8unorm to 14 rg11b10ufloat.
@@ -11,11 +13,40 @@ pub fn is_color(format: u32) -> bool
     (1 <= format) & (format <= 14)
 }
 
-// W3C "Depth-stencil formats": 20 stencil8 to 25 depth32float-stencil8.
+// The depth and the stencil aspect of a format, in the order of W3C's table of depth-stencil formats.
+fn aspects(format: u32) -> Aspects
+    ensures { λ r. ⌜ r ≡ Fo.aspects format ⌝ }
+{
+    match format {
+        20 => Aspects { depth: false, stencil: true }, // stencil8
+        21 => Aspects { depth: true, stencil: false }, // depth16unorm
+        22 => Aspects { depth: true, stencil: false }, // depth24plus
+        23 => Aspects { depth: true, stencil: true },  // depth24plus-stencil8
+        24 => Aspects { depth: true, stencil: false }, // depth32float
+        25 => Aspects { depth: true, stencil: true },  // depth32float-stencil8
+        _ => Aspects { depth: false, stencil: false },
+    }
+}
+
+// Whether the format has a depth aspect.
+pub fn has_depth(format: u32) -> bool
+    ensures { λ r. ⌜ r ≡ hasDepth format ⌝ }
+{
+    aspects(format).depth
+}
+
+// Whether the format has a stencil aspect.
+pub fn has_stencil(format: u32) -> bool
+    ensures { λ r. ⌜ r ≡ hasStencil format ⌝ }
+{
+    aspects(format).stencil
+}
+
+// Whether the format has one of the two.
 pub fn is_depth_stencil(format: u32) -> bool
     ensures { λ r. ⌜ r ≡ isDepthStencil format ⌝ }
 {
-    (20 <= format) & (format <= 25)
+    has_depth(format) | has_stencil(format)
 }
 
 // Whether the number is a format's.
@@ -23,20 +54,6 @@ pub fn is_format(format: u32) -> bool
     ensures { λ r. ⌜ r ≡ isFormat format ⌝ }
 {
     is_color(format) | is_depth_stencil(format)
-}
-
-// Whether the format has a depth aspect.
-pub fn has_depth(format: u32) -> bool
-    ensures { λ r. ⌜ r ≡ hasDepth format ⌝ }
-{
-    (21 <= format) & (format <= 25)
-}
-
-// Whether the format has a stencil aspect.
-pub fn has_stencil(format: u32) -> bool
-    ensures { λ r. ⌜ r ≡ hasStencil format ⌝ }
-{
-    (format == 20) | (format == 23) | (format == 25)
 }
 
 // The size divided by 2 to the mip, rounded down. Of a mip the low 5 bits count: a u32 has no more.

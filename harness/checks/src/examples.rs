@@ -66,11 +66,16 @@ pub fn table(text: &str) -> Vec<Row> {
     text.lines().filter_map(row).collect()
 }
 
-/// The row that a line holds, if it does.
-fn row(line: &str) -> Option<Row> {
+/// The cells of a table's row, if the line is one of N cells.
+pub fn cells<const N: usize>(line: &str) -> Option<[String; N]> {
     let inner = line.trim().strip_prefix('|')?.strip_suffix('|')?;
     let cells: Vec<String> = inner.split('|').map(|cell| cell.trim().into()).collect();
-    let [number, means, clause, example, change] = cells.try_into().ok()?;
+    cells.try_into().ok()
+}
+
+/// The row that a line holds, if it does.
+fn row(line: &str) -> Option<Row> {
+    let [number, means, clause, example, change] = cells(line)?;
     Some(Row {
         number: number.parse().ok()?,
         means,

@@ -1,12 +1,10 @@
--- The code's test is the definition's own.
-use mathlib.Core.Path.{refl}
-use Rattle.definition.specs.Formats.{hasDepth}
+-- What the call promises, read at a field.
+use borrow.Author.Needs.{needs}
 use Rattle.session.proofs.formats.has_depth.Statement.{statement}
 use Rattle.session.proofs.formats.has_depth.Tie as tie
 
 returns : tie.Need-returns
-unfolding hasDepth
-returns c = refl
+returns c = simp (c .aspects .ensures)
 
 pub has-depth-spec : {M : Type 1} → statement M
-has-depth-spec = tie.close (tie.spec returns)
+has-depth-spec = tie.close (tie.spec (λ c κs. search needs) returns)

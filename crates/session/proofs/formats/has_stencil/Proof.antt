@@ -1,12 +1,10 @@
--- The code's test is the definition's own.
-use mathlib.Core.Path.{refl}
-use Rattle.definition.specs.Formats.{hasStencil}
+-- What the call promises, read at a field.
+use borrow.Author.Needs.{needs}
 use Rattle.session.proofs.formats.has_stencil.Statement.{statement}
 use Rattle.session.proofs.formats.has_stencil.Tie as tie
 
 returns : tie.Need-returns
-unfolding hasStencil
-returns c = refl
+returns c = simp (c .aspects .ensures)
 
 pub has-stencil-spec : {M : Type 1} → statement M
-has-stencil-spec = tie.close (tie.spec returns)
+has-stencil-spec = tie.close (tie.spec (λ c κs. search needs) returns)

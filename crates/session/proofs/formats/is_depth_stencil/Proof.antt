@@ -1,12 +1,10 @@
--- The code's test is the definition's own.
-use mathlib.Core.Path.{refl}
-use Rattle.definition.specs.Formats.{isDepthStencil}
+-- What the calls promise, put together as the definition puts it together.
+use borrow.Author.Needs.{needs}
 use Rattle.session.proofs.formats.is_depth_stencil.Statement.{statement}
 use Rattle.session.proofs.formats.is_depth_stencil.Tie as tie
 
 returns : tie.Need-returns
-unfolding isDepthStencil
-returns c = refl
+returns c = simp (c .has-stencil .ensures, c .before .has-depth .ensures)
 
 pub is-depth-stencil-spec : {M : Type 1} → statement M
-is-depth-stencil-spec = tie.close (tie.spec returns)
+is-depth-stencil-spec = tie.close (tie.spec (λ c κs. search needs) (λ c κs. search needs) returns)
