@@ -19,12 +19,7 @@ struct Row {
     answer: u32,
 }
 
-/// The rows in a text: lines of six cells, the last a number.
-fn rows(text: &str) -> Vec<Row> {
-    text.lines().filter_map(row).collect()
-}
-
-/// The row that a line holds, if it does.
+/// The row that a line holds, if it does: six cells, the last a number.
 fn row(line: &str) -> Option<Row> {
     let [format, aspects, number, depth, stencil, answer] = cells(line)?;
     Some(Row {
@@ -39,7 +34,8 @@ fn row(line: &str) -> Option<Row> {
 
 /// The rows of the page.
 fn written() -> Vec<Row> {
-    rows(&fs::read_to_string(repository("docs/DEFINITION.md")).unwrap())
+    let text = fs::read_to_string(repository("docs/DEFINITION.md")).unwrap();
+    text.lines().filter_map(row).collect()
 }
 
 /// What the Rust answers a pass that clears and stores both aspects of a view of this format.
