@@ -1,7 +1,7 @@
 #!/usr/bin/env bash
 # Builds the harness and runs all its tests, without network. Prints what failed; the last line
 # says how many tests passed and failed. A build that fails counts as one failed test.
-# The proved libraries and the program are built first where they are missing or older than a source.
+# The proved libraries are built first where they are missing or older than a source, the programs where they are missing.
 set -u
 cd "$(dirname "${BASH_SOURCE[0]}")" || exit 1
 
@@ -10,7 +10,10 @@ trap 'rm -f "$log"' EXIT
 
 ../tools/library.sh
 ../tools/library.sh memory_init
-[ -f ../target/bin/deskcheck ] || (cd .. && rt check deskcheck)
+../tools/library.sh columns
+for program in deskcheck to_columns to_rows; do
+    [ -f "../target/bin/$program" ] || (cd .. && rt check "$program")
+done
 
 RUST_BACKTRACE=0 cargo test --offline --locked --workspace --no-fail-fast >"$log" 2>&1
 status=$?

@@ -1,5 +1,5 @@
 # Reads contracts, definitions and proofs as text, for tools/audit.sh: awk -f tools/audit.awk FILES, the files being all of crates/*/specs and
-# crates/*/proofs, the code, and docs/DEFINITION.md. Prints the three promises with their places, and what they rest on. A line that starts
+# crates/*/proofs, the code, and docs/DEFINITION.md. Prints the three promises with their places, the theorems about columns, and what they rest on. A line that starts
 # with 'FAILED: ' says what does not hold.
 
 # The file of a module of specs/, as of Rattle.lent.specs.State; of any other module nothing.
@@ -89,6 +89,18 @@ function show(    i, j, first, last, parts) {
     }
 }
 
+# The statements of theorems with their proofs: those of pass rows by columns, or the others.
+function theorems(of_columns,    i, part) {
+    for (i = 1; i <= stated; i++) {
+        split(statements[i], part, SUBSEP)
+        if ((part[1] ~ /^crates\/column/) != of_columns) continue
+        printf "  %s  %s:%d\n", part[2], part[1], at[part[1], part[2]]
+        if (part[2] in proof) printf "    %s\n", proof[part[2]]
+        else print "FAILED: no proof of " part[2]
+        found[part[2]] = 1
+    }
+}
+
 FNR == 1 { current = function_at = ""; type = 0; there[FILENAME] = 1 }
 
 # ── definitions
@@ -136,11 +148,13 @@ FILENAME ~ /\.rt$/ {
         sub(/\(.*/, "", name)
         sub(/.* /, "", name)
         exported = $0 ~ /^pub extern "C" fn /
-        if (exported || FILENAME ~ /^crates\/(print|deskcheck)\//) {
+        handed = FILENAME ~ /^crates\/columns\// && $0 ~ /^pub fn /
+        if (exported || handed || FILENAME ~ /^crates\/(print|deskcheck|column_files)\//) {
             function_at = FILENAME SUBSEP name
             functions[++contracts] = function_at
             line_of[function_at] = FNR
             is_exported[function_at] = exported
+            is_handed[function_at] = handed
         }
     }
     if (function_at != "") {
@@ -185,13 +199,13 @@ END {
     }
     if (!count) print "FAILED: no exported function"
 
-    print "\n2. It answers as the definition says: what the contract of each exported function cites, and of each function of the program that promises its text."
+    print "\n2. It answers as the definition says: what the contract of each exported function cites, of each that hands a part back to Rattle callers, and of each function of a program that promises its text."
     for (i = 1; i <= contracts; i++) {
         f = functions[i]
         split(f, part, SUBSEP)
         restart()
         cites(part[1], contract[f])
-        if (!is_exported[f]) {
+        if (!is_exported[f] && !is_handed[f]) {
             follow()
             if (!(("crates/print/specs/Output.antt", "output") in seen)) continue
             restart()
@@ -204,14 +218,10 @@ END {
     }
 
     print "\n3. No unwritten or discarded memory ever becomes visible: each theorem as a statement, and its proof."
-    for (i = 1; i <= stated; i++) {
-        split(statements[i], part, SUBSEP)
-        printf "  %s  %s:%d\n", part[2], part[1], at[part[1], part[2]]
-        if (part[2] in proof) printf "    %s\n", proof[part[2]]
-        else print "FAILED: no proof of " part[2]
-        found[part[2]] = 1
-    }
-    n = split("DemandThree NeverSix DemandThreeOfCalls NeverSixOfCalls", must, " ")
+    theorems(0)
+    print "\nPass rows by columns come back: each theorem as a statement, and its proof."
+    theorems(1)
+    n = split("DemandThree NeverSix DemandThreeOfCalls NeverSixOfCalls RowsBack ColumnsBack FilesBack", must, " ")
     for (i = 1; i <= n; i++) if (!(must[i] in found)) print "FAILED: no statement " must[i]
 
     print "\nWhat has to be believed: the definitions that these contracts and statements rest on, by file."

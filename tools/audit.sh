@@ -53,7 +53,8 @@ if [ "$status" -ne 0 ]; then
     fail "rt check ended with status $status"
 fi
 
-# The last line of the check that proved a library: it names no C function that is assumed. Nor does it use a library of the kit that has any.
+# The last line of the check that proved a library: it names no C function that is assumed. One that uses the kit's C functions is for programs,
+# which say below what they assume; what C callers link is asked for that too.
 libraries=0 functions=0 programs=() exporting=()
 while IFS=: read -r name uses; do
     if [ -f "crates/$name/src/main.rt" ]; then
@@ -61,7 +62,7 @@ while IFS=: read -r name uses; do
         continue
     fi
     grep -rqs '^pub extern "C" fn ' "crates/$name/src" && exporting+=("$name")
-    case " $uses " in *" libc "* | *" io "* | *" os "*) fail "the library $name uses the kit's C functions:$uses" ;; esac
+    case " $uses " in *" libc "* | *" io "* | *" os "*) echo "  the library $name is for programs: it uses the kit's C functions" ;; esac
     line=$(grep -s '^logic=' "target/log/$name.say" | tail -n 1)
     case $line in
     "logic=proved "*foreign=* | "logic=proved "*axioms=* | "logic=proved "*pinned=no*) fail "the library $name: $line" ;;

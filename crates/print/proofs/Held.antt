@@ -36,7 +36,7 @@ module _ {buffer : List ℕ} {held bytes : ℕ} {file : List ℕ} (holds : Holds
 
   module _ (many : longestSession < held) where
     -- More: the file is longer than any session, and has the buffer's length field.
-    held-long : longestSession < length file
+    pub held-long : longestSession < length file
     held-long =
         let e : length (take held file) ≡ held = ap length (holds .front) ∙ length-take-le held buffer room in
         omega (arith, e, length-take held file)

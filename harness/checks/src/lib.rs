@@ -2,6 +2,7 @@
 //! proved library behind it, the tests of the checks the model, with and without faults.
 
 pub mod answers;
+pub mod callers;
 pub mod calls;
 pub mod differential;
 pub mod examples;

@@ -4,28 +4,14 @@
 use std::collections::{BTreeMap, BTreeSet};
 use std::fs;
 use std::path::{Path, PathBuf};
-use std::process::{Command, Output};
+use std::process::Command;
 
+use checks::callers::{link, output, printed, symbols};
 use checks::examples::{file_of_number, files, repository};
 use desk::layout::*;
 
-/// The proved library.
-const LIBRARY: &str = "target/staticlib/libdesk.a";
-
-/// Runs a command; it must be there.
-fn output(command: &mut Command) -> Output {
-    let done = command.output();
-    done.unwrap_or_else(|wrong| panic!("{command:?}: {wrong}"))
-}
-
-/// Standard output of a command that succeeds.
-fn printed(command: &mut Command) -> String {
-    let done = output(command);
-    let errors = String::from_utf8_lossy(&done.stderr);
-    assert!(done.status.success(), "{command:?}\n{errors}");
-    assert_eq!(errors, "", "{command:?}");
-    String::from_utf8(done.stdout).unwrap()
-}
+/// The crate of the proved library.
+const LIBRARY: &str = "desk";
 
 /// A program of `harness/c`, compiled against the header and linked with the library.
 fn compiled(name: &str) -> PathBuf {
@@ -36,13 +22,7 @@ fn compiled(name: &str) -> PathBuf {
 /// The same of any source.
 fn linked(source: &Path, name: &str) -> PathBuf {
     let program = PathBuf::from(env!("CARGO_TARGET_TMPDIR")).join(format!("c-{name}"));
-    let mut gcc = Command::new("gcc");
-    gcc.args(["-std=c11", "-Wall", "-Wextra", "-Wpedantic", "-Werror"]);
-    gcc.arg("-I").arg(repository("include"));
-    gcc.arg(source);
-    gcc.arg(repository(LIBRARY));
-    gcc.arg("-pthread").arg("-o").arg(&program);
-    printed(&mut gcc);
+    link(source, LIBRARY, &program);
     program
 }
 
@@ -147,18 +127,13 @@ fn the_headers_macros_agree_with_the_layout() {
     linked(&source, "sizes");
 }
 
-/// The library's symbols of these kinds, as `nm` has them.
-fn symbols(kinds: &str) -> Vec<String> {
-    let listed = printed(Command::new("nm").arg(repository(LIBRARY)));
-    let lines = listed.lines().filter_map(|line| line.rsplit_once(' '));
-    let of_kind = lines.filter(|(front, _)| front.ends_with(|kind| kinds.contains(kind)));
-    of_kind.map(|(_, name)| name.to_string()).collect()
-}
-
 #[test]
 fn the_library_needs_two_functions_and_has_no_variables() {
-    assert_eq!(symbols("U"), ["memcpy", "memset"]);
+    assert_eq!(symbols(LIBRARY, "U"), ["memcpy", "memset"]);
     let functions = ["pass", "session", "session_refusal", "submit"];
-    assert_eq!(symbols("T"), functions.map(|f| format!("deskcheck_{f}")));
-    assert_eq!(symbols("BbCDdGgSs"), [""; 0]);
+    assert_eq!(
+        symbols(LIBRARY, "T"),
+        functions.map(|f| format!("deskcheck_{f}"))
+    );
+    assert_eq!(symbols(LIBRARY, "BbCDdGgSs"), [""; 0]);
 }

@@ -14,7 +14,7 @@ use checks::words::{only, text};
 use runs::{arguments, end};
 
 use cases::{first_passes, growths, judged_passes, reading, single_passes, whole_sessions, Growth};
-use timing::Pair;
+use timing::{machine, print_head, print_row, Pair};
 
 /// What the numbers are measured on and of.
 const ABOUT: &str = "\
@@ -26,36 +26,6 @@ Rust: the functions of docs/src with the harness's stand-ins; it reads the same 
   does no test of ours: 5, 49 and 50.
 ratio: the Rust's time by ours; over 1 means that ours is faster.
 ";
-
-/// The machine, as far as Linux tells it.
-fn machine() -> String {
-    let first = |path: &str, start: &str| {
-        let text = fs::read_to_string(path).unwrap_or_default();
-        let line = text.lines().find(|line| line.starts_with(start));
-        line.unwrap_or("unknown").to_string()
-    };
-    format!(
-        "{}\nload average {}\n",
-        first("/proc/cpuinfo", "model name"),
-        first("/proc/loadavg", "")
-    )
-}
-
-/// Prints the head of a table.
-fn print_head(title: &str) {
-    println!("\n{title}");
-    println!("{:<44} {:>12} {:>12} {:>8}", "", "ours", "Rust", "ratio");
-}
-
-/// Prints a row of a table.
-fn print_row(name: &str, pair: Pair) {
-    println!(
-        "{name:<44} {:>9.0} ns {:>9.0} ns {:>8.2}",
-        pair.ours,
-        pair.rust,
-        pair.rust / pair.ours
-    );
-}
 
 /// Prints a growth, and writes its plot where a folder is given.
 fn show(growth: &Growth, folder: Option<&str>) -> Result<(), String> {

@@ -1,5 +1,6 @@
-//! Times of two sides, taken in turns.
+//! Times of two sides, taken in turns, and the tables of them. `harness/columns` times with it, too.
 
+use std::fs;
 use std::time::{Duration, Instant};
 
 /// Nanoseconds of one unit of work, by ours and by the Rust.
@@ -51,4 +52,34 @@ fn time(calls: u32, work: &mut impl FnMut()) -> Duration {
 /// The least one.
 fn least(times: Vec<Duration>) -> Duration {
     times.into_iter().min().unwrap_or_default()
+}
+
+/// The machine, as far as Linux tells it.
+pub fn machine() -> String {
+    let first = |path: &str, start: &str| {
+        let text = fs::read_to_string(path).unwrap_or_default();
+        let line = text.lines().find(|line| line.starts_with(start));
+        line.unwrap_or("unknown").to_string()
+    };
+    format!(
+        "{}\nload average {}\n",
+        first("/proc/cpuinfo", "model name"),
+        first("/proc/loadavg", "")
+    )
+}
+
+/// Prints the head of a table.
+pub fn print_head(title: &str) {
+    println!("\n{title}");
+    println!("{:<44} {:>12} {:>12} {:>8}", "", "ours", "Rust", "ratio");
+}
+
+/// Prints a row of a table.
+pub fn print_row(name: &str, pair: Pair) {
+    println!(
+        "{name:<44} {:>9.0} ns {:>9.0} ns {:>8.2}",
+        pair.ours,
+        pair.rust,
+        pair.rust / pair.ours
+    );
 }

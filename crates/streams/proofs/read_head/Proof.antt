@@ -3,8 +3,8 @@ use mathlib.Core.Path.{_≡_, refl}
 use Prim.Native.Nat.{_-_, _≤_}
 use native.Mathlib.Omega.{arith}
 use lib.ListN.{length}
-use Rattle.deskcheck.proofs.read_head.Statement.{statement}
-use Rattle.deskcheck.proofs.read_head.Tie as tie
+use Rattle.streams.proofs.read_head.Statement.{statement}
+use Rattle.streams.proofs.read_head.Tie as tie
 
 abbrev Inv-loop : tie.InvT-loop
 Inv-loop buf₀ at₀ buf at = (at ≤ length buf) × (length buf ≡ length buf₀)

@@ -1,7 +1,6 @@
--- A buffer that is not full has the whole input. A full one has more than any session; each turn but the last reads a byte or more.
+-- The invariant: what is counted is no less than at the start. Each turn but the last reads a byte or more, and none is made past the bound.
 use mathlib.Core.Path.{_≡_, refl, sym, _∙_}
 use mathlib.Core.Bool.{Bool, true, not}
-use mathlib.Core.Logic.{inl, inr}
 use Prim.Native.Nat.{ℕ, _-_, _≤_, _<_}
 use native.Mathlib.Omega.{arith}
 use borrow.Author.Needs.{needs}
@@ -9,14 +8,14 @@ use borrow.Author.Tests.{leb-false, not-true}
 use lib.Dec.{leb}
 use lib.ListN.{length}
 use Rattle.print.specs.Oversize.{lengthBound}
-use Rattle.deskcheck.proofs.read_rest.Statement.{statement}
-use Rattle.deskcheck.proofs.read_rest.Tie as tie
+use Rattle.streams.proofs.read_rest.Statement.{statement}
+use Rattle.streams.proofs.read_rest.Tie as tie
 
 abbrev Inv-loop : tie.InvT-loop
-Inv-loop held bytes₀ space₀ bytes space = (held ≤ bytes) × (length space ≡ length space₀)
+Inv-loop from bytes₀ space₀ bytes space = (from ≤ bytes) × (length space ≡ length space₀)
 
 abbrev μ-loop : tie.MeasureT-loop
-μ-loop held bytes₀ space₀ bytes space = lengthBound - bytes
+μ-loop from bytes₀ space₀ bytes space = lengthBound - bytes
 
 -- A turn is made below the bound.
 below : (past : Bool) (n : ℕ) → past ≡ leb lengthBound n → not past ≡ true → n < lengthBound
@@ -26,21 +25,15 @@ add-bytes : tie.Need-add-bytes Inv-loop μ-loop
 add-bytes c =
     let read = c .before .before .before in
     let test = read .before .before in
-    omega (arith, below _ (test .before .before .loop .bytes) (test .before .past-length-field .ensures) (test .if2 .taken), read .read-some .kept .0)
+    omega (arith, below _ (test .before .before .loop .bytes) (test .before .past-length-field .ensures) (test .if1 .taken), read .read-some .kept .0)
 
 loop-less : tie.Need-loop-less Inv-loop μ-loop
 loop-less c =
     let test = c .before .before .before .before .before in
-    omega (arith, below _ (test .before .before .loop .bytes) (test .before .past-length-field .ensures) (test .if2 .taken))
+    omega (arith, below _ (test .before .before .loop .bytes) (test .before .past-length-field .ensures) (test .if1 .taken))
 
 loop-again : tie.Need-loop-again Inv-loop μ-loop
 loop-again c = (omega arith, c .before .before .before .read-some .kept .0 ∙ c .before .before .before .before .before .before .before .loop .inv .1)
-
-returns-2 : tie.Need-returns-2 Inv-loop μ-loop
-returns-2 c = inr (omega arith, omega arith)
-
-returns-3 : tie.Need-returns-3 Inv-loop μ-loop
-returns-3 c = inr (omega arith, omega arith)
 
 pub read-rest-spec : {M : Type 1} → statement M
 read-rest-spec =
@@ -48,14 +41,13 @@ read-rest-spec =
     (tie.spec
     Inv-loop
     μ-loop
-    (λ c. inl refl)
     (λ c κs. search needs)
     (λ c. (omega arith, refl))
     (λ c κs. search needs)
     (λ c. omega arith)
     (λ c κs. search needs)
-    returns-2
+    (λ c. omega arith)
     add-bytes
     loop-less
     loop-again
-    returns-3)
+    (λ c. omega arith))

@@ -1,2 +1,0 @@
--- The root of what this program means.
-pub mod Answered

@@ -1,0 +1,2 @@
+-- The root of this crate's proofs.
+pub mod Answered
