@@ -221,7 +221,7 @@ END {
     theorems(0)
     print "\nPass rows by columns come back: each theorem as a statement, and its proof."
     theorems(1)
-    n = split("DemandThree NeverSix DemandThreeOfCalls NeverSixOfCalls RowsBack ColumnsBack FilesBack", must, " ")
+    n = split("DemandThree NeverSix DemandThreeOfCalls NeverSixOfCalls Inverse CallsInverse FilesBack", must, " ")
     for (i = 1; i <= n; i++) if (!(must[i] in found)) print "FAILED: no statement " must[i]
 
     print "\nWhat has to be believed: the definitions that these contracts and statements rest on, by file."

@@ -2,7 +2,6 @@
 use mathlib.Core.Path.{_≡_, ap, _∙_}
 use mathlib.Core.List.{List, _++_}
 use Prim.Native.Nat.{ℕ, _+_, _*_, _≤_}
-use native.Mathlib.Nat.{mul-comm}
 use native.Mathlib.Omega.{arith}
 use borrow.Author.Tests.{eq-eqb}
 use lib.ListN.{length, take, drop, length-append, length-drop, take-append-drop}
@@ -13,22 +12,11 @@ use Rattle.definition.specs.Readable.{sessionRefusal}
 use Rattle.readable.proofs.Valid.{valid-of}
 use Rattle.columns.specs.Columns.{arranged}
 use Rattle.columns.specs.declared.Way.{Way}
-use Rattle.columns.specs.declared.Way.the-variants as To
-use Rattle.columns.proofs.Columns.{columns-length}
-use Rattle.columns.proofs.Theorem.{rows-back, columns-back}
+use Rattle.columns.proofs.Theorem.{inverse, arranged-length}
 use Rattle.column_files.specs.Files.{rearranged, written}
-use Rattle.column_files.specs.Theorem.{back, FilesBack, StillReadable}
+use Rattle.columns.specs.Theorem.{back}
+use Rattle.column_files.specs.Theorem.{FilesBack, StillReadable}
 use Rattle.column_files.proofs.Front.{passes-same, start-same, refused-alike}
-
--- Either way first.
-arranged-back : (way : Way) (n : ℕ) (b : List ℕ) → length b ≡ passBytes * n → arranged (back way) n (arranged way n b) ≡ b
-arranged-back To.Columns n b h = rows-back n b h
-arranged-back To.Rows n b h = columns-back n b h
-
--- As many bytes.
-arranged-length : (way : Way) (n : ℕ) (b : List ℕ) → length (arranged way n b) ≡ passBytes * n
-arranged-length To.Columns n b = columns-length n passBytes b passBytes ∙ mul-comm n passBytes
-arranged-length To.Rows n b = columns-length passBytes n b n
 
 module _ (s : List ℕ) (fine : sessionRefusal s ≡ 0) where
   -- The passes stand at the end.
@@ -70,7 +58,7 @@ module _ (way : Way) (s : List ℕ) (fine : sessionRefusal s ≡ 0) where
       ∙ ap (λ l. l ++ arranged (back way) (passCount s) (drop (passStart s) t)) front-same
       ∙ ap (λ l. take (passStart s) s ++ arranged (back way) (passCount s) l) passes-arranged
       ∙ ap (λ l. take (passStart s) s ++ l)
-      (arranged-back way (passCount s) (drop (passStart s) s) (length-drop (passStart s) s ∙ omega (arith, part-length s fine)))
+      (inverse way (passCount s) (drop (passStart s) s) (length-drop (passStart s) s ∙ omega (arith, part-length s fine)))
       ∙ take-append-drop (passStart s) s
 
 pub still-readable : StillReadable

@@ -5,12 +5,7 @@ use Prim.Native.Nat.{ℕ}
 use Rattle.definition.specs.Readable.{sessionRefusal}
 use Rattle.column_files.specs.Files.{rearranged, written}
 use Rattle.columns.specs.declared.Way.{Way}
-use Rattle.columns.specs.declared.Way.the-variants as To
-
--- The way that undoes a way.
-abbrev pub back : Way → Way
-back To.Columns = To.Rows
-back To.Rows = To.Columns
+use Rattle.columns.specs.Theorem.{back}
 
 -- There and back, either way first, for every readable session.
 abbrev pub FilesBack : Type 0

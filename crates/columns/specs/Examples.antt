@@ -1,7 +1,6 @@
 -- Rows by columns, computed: small ones, and the corners of the refusals.
 use mathlib.Core.Path.{_≡_, refl}
-use mathlib.Core.List.{List, [], _∷_}
-use Prim.Native.Nat.{ℕ}
+use mathlib.Core.List.{[], _∷_}
 use Rattle.columns.specs.Columns.{column, columns, transposed, isPart, rearrangeNumber, hasColumn, columnPlace}
 
 -- Two rows of three bytes; and back.

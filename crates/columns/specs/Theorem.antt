@@ -1,20 +1,29 @@
--- The two rearrangements are inverse to each other; each byte stands where the definition puts it; and the part that is handed back is byte j of all passes.
+-- The two ways are inverse to each other; where each byte stands; and the part that is handed back is byte j of all passes.
 use mathlib.Core.Path.{_≡_}
 use mathlib.Core.Logic.{_≢_}
 use mathlib.Core.List.{List, []}
 use Prim.Native.Nat.{ℕ, _+_, _*_, _<_, _≤_}
-use lib.ListN.{length, getD}
+use lib.ListN.{length, getD, take}
 use Rattle.definition.specs.Sizes.{passBytes, maxPasses}
 use Rattle.columns.specs.Columns.{column, arranged, columnPlace, columnPart}
+use Rattle.columns.specs.Promise.{Rearranged}
+use Rattle.columns.specs.declared.Way.{Way}
 use Rattle.columns.specs.declared.Way.the-variants as To
 
--- To columns and back to rows, of any number of passes.
-abbrev pub RowsBack : Type 0
-RowsBack = (n : ℕ) (b : List ℕ) → length b ≡ passBytes * n → arranged To.Rows n (arranged To.Columns n b) ≡ b
+-- The way that undoes a way.
+abbrev pub back : Way → Way
+back To.Columns = To.Rows
+back To.Rows = To.Columns
 
--- To rows and back to columns.
-abbrev pub ColumnsBack : Type 0
-ColumnsBack = (n : ℕ) (b : List ℕ) → length b ≡ passBytes * n → arranged To.Columns n (arranged To.Rows n b) ≡ b
+-- There and back, either way first, of any number of passes.
+abbrev pub Inverse : Type 0
+Inverse = (way : Way) (n : ℕ) (b : List ℕ) → length b ≡ passBytes * n → arranged (back way) n (arranged way n b) ≡ b
+
+-- The same of two calls that are not refused, the second on what the first wrote.
+abbrev pub CallsInverse : Type 0
+CallsInverse =
+    (way : Way) (n : ℕ) (part before after before′ after′ : List ℕ) → Rearranged way n part before 0 after
+    → Rearranged (back way) n (take (length part) after) before′ 0 after′ → take (length part) after′ ≡ part
 
 -- Byte j of pass i.
 abbrev pub Stands : Type 0
