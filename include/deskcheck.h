@@ -50,8 +50,9 @@ extern "C" {
  * 14 rg11b10ufloat, 20 stencil8, 21 depth16unorm, 22 depth24plus, 23 depth24plus-stencil8,
  * 24 depth32float, 25 depth32float-stencil8.
  *
- * View, 32 bytes: texture, dimension (1 D1, 2 D2, 3 D2Array, 4 Cube, 5 CubeArray, 6 D3), base mip,
- * mip count, base layer, layer count, usage, resolvable (0 or 1).
+ * View, 36 bytes: texture, dimension (1 D1, 2 D2, 3 D2Array, 4 Cube, 5 CubeArray, 6 D3), base mip,
+ * mip count, base layer, layer count, usage, resolvable (0 or 1), format: the texture's, or its sRGB
+ * sibling (3 with 4, 5 with 6).
  *
  * Pass, 504 bytes: colour count (0 to 8), multiview mask (0 none), ends-buffer (0 or 1), depth-stencil
  * view (4294967295 none); for depth, then stencil: load (0 Load, 1 Clear, 2 DontCare, 3 absent), store
@@ -66,7 +67,7 @@ extern "C" {
  */
 #define DESKCHECK_HEADER_LEN 40
 #define DESKCHECK_TEXTURE_LEN 32
-#define DESKCHECK_VIEW_LEN 32
+#define DESKCHECK_VIEW_LEN 36
 #define DESKCHECK_SLOTS 8
 #define DESKCHECK_SLOT_LEN 56
 #define DESKCHECK_PASS_LEN (56 + DESKCHECK_SLOTS * DESKCHECK_SLOT_LEN)

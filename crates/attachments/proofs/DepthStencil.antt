@@ -24,7 +24,7 @@ part-absent S p d k e h a =
     subst (PartOf S d) (sym nil) (none a)
 
 pub part-present : (S : Session) (p : Pass) (d : DepthStencilPart) (k f : ℕ) (depth : Ops Float) (stencil : Ops ℕ)
-    → k ≡ p .depthStencil → isNone k ≡ false → f ≡ formatOf S (S .view k) → depth ≡ depthOps S p f → stencil ≡ stencilOps S p f
+    → k ≡ p .depthStencil → isNone k ≡ false → f ≡ formatOf (S .view k) → depth ≡ depthOps S p f → stencil ≡ stencilOps S p f
     → Present S d (depthStencil k (viewRange (S .view k)) (hasDepth f) (hasStencil f) depth stencil) → PartOf S d (depthStencilPart S p)
 unfolding depthStencilPart
 part-present S p d k f depth stencil ek h ef ed es a =

@@ -22,7 +22,6 @@ use plan::depth_stencil_usage;
 use plan::resolve_plan;
 use session::depth;
 use session::depth_stencil;
-use session::derived::format_of;
 use session::derived::is_none;
 use session::derived::read_only_depth_stencil;
 use session::derived::strict;
@@ -192,7 +191,7 @@ pub fn depth_stencil_part(s: &[u8], pass: u32) -> DepthStencilPart
     if is_none(k) {
         return no_depth_stencil();
     }
-    let format = format_of(s, view(s, k));
+    let format = view(s, k).format;
     depth_stencil_of(
         s,
         k,

@@ -15,7 +15,6 @@ use definition::verdicts::unless;
 use definition::verdicts::unless_against;
 use session::depth_stencil;
 use session::derived::depth_of;
-use session::derived::format_of;
 use session::derived::height_of;
 use session::derived::is_d2;
 use session::derived::is_d2_array;
@@ -60,7 +59,7 @@ fn color_view(s: &[u8], pass: u32, seen: Seen, c: Slot, v: View, k: u32) -> Verd
 {
     let layers = check_multiview(s, seen, v, k);
     let fit = add_view(s, seen, v, k);
-    let format = unless(is_color(format_of(s, v)), 37, k);
+    let format = unless(is_color(v.format), 37, k);
     let slice = slice_verdict(s, c, v, k);
     let free = check_attachment_overlap(s, pass, k, v, c.slice, k);
     then(layers, then(fit, then(format, then(slice, free))))
@@ -102,7 +101,7 @@ fn target_of(s: &[u8], seen: Seen, v: View, target: View, place: u32) -> Verdict
     let resolves = (samples_of(s, v) != 1) & (samples_of(s, target) == 1);
     let extent = unless_against(same_extent(s, v, target), 35, place, seen.last);
     let samples = unless(resolves, 42, place);
-    let format = unless(format_of(s, v) == format_of(s, target), 43, place);
+    let format = unless(v.format == target.format, 43, place);
     let resolvable = unless(target.resolvable == 1, 44, place);
     let kept = unless(!transient(target), 45, place);
     then(extent, then(samples, then(format, then(resolvable, kept))))

@@ -47,6 +47,7 @@ module _ (s t : List ℕ) (same : take (passStart s) t ≡ take (passStart s) s)
     layers = number-same (at + 20) (omega arith) q;
     usage = number-same (at + 24) (omega arith) q;
     resolvable = number-same (at + 28) (omega arith) q;
+    format = number-same (at + 32) (omega arith) q;
   }
 
   pub textures-same : textureCount t ≡ textureCount s

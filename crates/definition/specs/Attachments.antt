@@ -32,7 +32,7 @@ stencilOps S p f = resolvedOps (stencilResolved (hasStencil f) (strict S) (p .st
 
 abbrev pub depthStencilOf : Session → Pass → View → Attached
 depthStencilOf S p v =
-    depthStencil (p .depthStencil) (viewRange v) (hasDepth (formatOf S v)) (hasStencil (formatOf S v)) (depthOps S p (formatOf S v)) (stencilOps S p (formatOf S v))
+    depthStencil (p .depthStencil) (viewRange v) (hasDepth (formatOf v)) (hasStencil (formatOf v)) (depthOps S p (formatOf v)) (stencilOps S p (formatOf v))
 
 unfoldable pub depthStencilPart : Session → Pass → List Attached
 depthStencilPart S p = cond (isNone (p .depthStencil)) [] (depthStencilOf S p (S .view (p .depthStencil)) ∷ [])

@@ -47,7 +47,7 @@ channelOps strict transient f d s =
 unfoldable pub depthStencilOps : Session → Pass → Verdict
 depthStencilOps S p =
     cond (isNone (p .depthStencil)) fine
-    (channelOps (strict S) (transient (S .view (p .depthStencil))) (formatOf S (S .view (p .depthStencil))) (p .depth) (p .stencil))
+    (channelOps (strict S) (transient (S .view (p .depthStencil))) (formatOf (S .view (p .depthStencil))) (p .depth) (p .stencil))
 
 -- 10 to 26.
 unfoldable pub opsVerdict : Session → Pass → Verdict

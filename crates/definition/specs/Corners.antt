@@ -26,17 +26,9 @@ abbrev texture : ℕ → ℕ → ℕ → ℕ → ℕ → ℕ → Texture
 texture f d size layers mips samples = record
     { format = f; dimension = d; width = size; height = size; depth = layers; mips = mips; samples = samples; usage = 16 }
 
--- Texture, dimension, mips, layers.
-abbrev view : ℕ → ℕ → ℕ → ℕ → View
-view t d mips layers = record
-    { texture = t; dimension = d; mip = 0; mips = mips; layer = 0; layers = layers; usage = 16; resolvable = 1 }
-
--- A transient texture of format f, and the view of a transient texture t.
+-- A transient texture of format f.
 abbrev transientTexture : ℕ → Texture
 transientTexture f = record { format = f; dimension = 2; width = 4; height = 4; depth = 1; mips = 1; samples = 1; usage = 48 }
-
-abbrev transientView : ℕ → View
-transientView t = record { texture = t; dimension = 2; mip = 0; mips = 1; layer = 0; layers = 1; usage = 48; resolvable = 1 }
 
 -- View k is of texture k, but for the last.
 abbrev textures : List Texture
@@ -58,6 +50,20 @@ textures =
     ∷ texture 24 2 4 1 1 1  -- 14: depth32float
     ∷ texture 25 2 4 1 1 1  -- 15: depth32float-stencil8
     ∷ []
+
+-- The format of texture t, in which its views show it.
+abbrev inFormat : ℕ → ℕ
+inFormat t = getD textures t (texture 0 0 0 0 0 0) .format
+
+-- Texture, dimension, mips, layers.
+abbrev view : ℕ → ℕ → ℕ → ℕ → View
+view t d mips layers = record
+    { texture = t; dimension = d; mip = 0; mips = mips; layer = 0; layers = layers; usage = 16; resolvable = 1; format = inFormat t }
+
+-- The view of a transient texture t.
+abbrev transientView : ℕ → View
+transientView t = record
+    { texture = t; dimension = 2; mip = 0; mips = 1; layer = 0; layers = 1; usage = 48; resolvable = 1; format = inFormat t }
 
 abbrev views : List View
 views =

@@ -1,7 +1,9 @@
 -- Session files written row by row, for the computed checks.
 use Prim.Native.Nat.{ℕ, _+_, _*_, _/_, _%_, _-_}
-use mathlib.Core.List.{List, [], _∷_, _++_}
-use lib.ListN.{length, replicate}
+use mathlib.Core.List.{List, [], _∷_, _++_, map}
+use mathlib.Core.Bool.{cond}
+use lib.Dec.{eqb}
+use lib.ListN.{length, getD, replicate}
 use Rattle.definition.specs.Sizes.{headerBytes, textureBytes, viewBytes, passBytes, maxSlots, noView}
 
 -- Numbers as little-endian u32.
@@ -18,9 +20,17 @@ abbrev pub texture : (format dimension size depth mips samples usage : ℕ) → 
 texture format dimension size depth mips samples usage =
     format ∷ dimension ∷ size ∷ size ∷ depth ∷ mips ∷ samples ∷ usage ∷ []
 
--- A view of mips 0 to mips - 1 and layers 0 to layers - 1.
+-- A view of mips 0 to mips - 1 and layers 0 to layers - 1, in its texture's format.
 abbrev pub view : (texture dimension mips layers usage resolvable : ℕ) → List ℕ
 view texture dimension mips layers usage resolvable = texture ∷ dimension ∷ 0 ∷ mips ∷ 0 ∷ layers ∷ usage ∷ resolvable ∷ []
+
+-- A view in a format of its own.
+abbrev pub shownAs : ℕ → List ℕ → List ℕ
+shownAs format row = row ++ (format ∷ [])
+
+-- The whole row of a view whose format is not said: its texture's.
+abbrev pub viewRow : List (List ℕ) → List ℕ → List ℕ
+viewRow textures row = cond (eqb (length row) 8) (shownAs (getD (getD textures (getD row 0 0) []) 0 0) row) row
 
 -- Load, store, read-only, clear given, clear.
 abbrev pub channel : (load store readOnly given clear : ℕ) → List ℕ
@@ -56,7 +66,7 @@ fileOf settings textures views passes =
     let viewStart = headerBytes + textureBytes * length textures in
     let passStart = viewStart + viewBytes * length views in
     words ((length textures ∷ headerBytes ∷ length views ∷ viewStart ∷ length passes ∷ passStart ∷ []) ++ settings
-    ++ ((passStart + passBytes * length passes) ∷ []) ++ concat textures ++ concat views ++ concat passes)
+    ++ ((passStart + passBytes * length passes) ∷ []) ++ concat textures ++ concat (map (viewRow textures) views) ++ concat passes)
 
 -- Of maximum colours, maximum multiview views and flags.
 abbrev pub file : (maxColors maxMultiview flags : ℕ) → List (List ℕ) → List (List ℕ) → List (List ℕ) → List ℕ

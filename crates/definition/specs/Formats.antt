@@ -1,4 +1,4 @@
--- Texture formats by document 01's numbers, their aspects (W3C "Texture Format Capabilities"), and mip sizes.
+-- Texture formats by document 01's numbers, their aspects (W3C "Texture Format Capabilities") and siblings, and mip sizes.
 use Prim.Native.Nat.{ℕ, _/_, _^_, max}
 use mathlib.Core.Bool.{Bool, true, false, _&&_, _||_, cond}
 use lib.Dec.{leb, eqb}
@@ -33,6 +33,10 @@ isDepthStencil f = hasDepth f || hasStencil f
 -- Whether a number is a format's.
 unfoldable pub isFormat : ℕ → Bool
 isFormat f = isColor f || isDepthStencil f
+
+-- The format without its sRGB suffix: rgba8unorm of rgba8unorm-srgb, bgra8unorm of bgra8unorm-srgb.
+unfoldable pub removeSrgbSuffix : ℕ → ℕ
+removeSrgbSuffix f = cond (eqb f 4) 3 (cond (eqb f 6) 5 f)
 
 -- W3C "logical miplevel-specific texture extent": size divided by 2 to the mip, rounded down, at least 1.
 unfoldable pub mipSize : ℕ → ℕ → ℕ

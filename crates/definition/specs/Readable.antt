@@ -6,9 +6,9 @@ use lib.ListN.{length}
 use lib.Dec.{leb, ltb, eqb}
 use Rattle.definition.specs.Sizes.{headerBytes, maxTextures, maxViews, maxPasses, maxSlots, maxMultiviews, maxFlags, maxSize, maxLayers, maxMips, maxUsage, maxSurfaces}
 use Rattle.definition.specs.Bytes.{bit}
-use Rattle.definition.specs.Formats.{isColor, isFormat}
+use Rattle.definition.specs.Formats.{isColor, isFormat, removeSrgbSuffix}
 use Rattle.definition.specs.Verdict.{nowhere, _then_, unless}
-use Rattle.definition.specs.Session.{Pass, Session, session, isNone, arrayLayers, surfaceCount, textureCount, textureOffset, viewCount, viewOffset, passCount, passOffset, maxColors, maxMultiview, flags, totalLength, viewStart, passStart, passEnd}
+use Rattle.definition.specs.Session.{Pass, Session, session, isNone, arrayLayers, surfaceCount, formatOf, textureCount, textureOffset, viewCount, viewOffset, passCount, passOffset, maxColors, maxMultiview, flags, totalLength, viewStart, passStart, passEnd}
 use Rattle.definition.specs.declared.Verdict.{Verdict}
 use Rattle.definition.specs.declared.Texture.{Texture}
 use Rattle.definition.specs.declared.View.{View}
@@ -62,13 +62,17 @@ usageAmong a b = leb a maxUsage && bitsBelow a b 6
 unfoldable pub dimensionFits : ℕ → ℕ → Bool
 dimensionFits v t = eqb v 1 && eqb t 1 || eqb v 6 && eqb t 3 || between 2 5 v && eqb t 2
 
+-- W3C "texture view format compatible": the formats are equal, or differ in the sRGB suffix alone.
+unfoldable pub formatFits : ℕ → ℕ → Bool
+formatFits v t = eqb (removeSrgbSuffix v) (removeSrgbSuffix t)
+
 -- W3C "texture view creation": ranges are non-empty and inside the texture.
 unfoldable pub viewInTexture : Texture → View → Bool
 viewInTexture t v =
     dimensionFits (v .dimension) (t .dimension)
     && leb 1 (v .mips) && leb (v .mip + v .mips) (t .mips)
     && leb 1 (v .layers) && leb (v .layer + v .layers) (arrayLayers t)
-    && usageAmong (v .usage) (t .usage) && leb (v .resolvable) 1
+    && usageAmong (v .usage) (t .usage) && leb (v .resolvable) 1 && formatFits (formatOf v) (t .format)
 
 unfoldable pub viewRight : Session → View → Bool
 viewRight S v = ltb (v .texture) (S .textureCount) && viewInTexture (S .texture (v .texture)) v

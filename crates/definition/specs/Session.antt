@@ -101,6 +101,7 @@ viewAt s at = record {
   layers = u32At s (at + 20);
   usage = u32At s (at + 24);
   resolvable = u32At s (at + 28);
+  format = u32At s (at + 32);
 }
 
 abbrev pub channelAt : List ℕ → ℕ → Channel
@@ -199,10 +200,14 @@ textureSurfaces S (suc n) = textureSurfaces S n ++ mipSurfaces n (arrayLayers (S
 abbrev pub surfacesOf : Session → List Surface
 surfacesOf S = textureSurfaces S (S .textureCount)
 
--- What a view takes from its texture.
-abbrev pub formatOf : Session → View → ℕ
-formatOf S v = S .texture (v .texture) .format
+-- The format that a view shows its texture in, and the texture's own, which its memory goes by.
+abbrev pub formatOf : View → ℕ
+formatOf v = v .format
 
+abbrev pub textureFormat : Session → View → ℕ
+textureFormat S v = S .texture (v .texture) .format
+
+-- What a view takes from its texture.
 abbrev pub samplesOf : Session → View → ℕ
 samplesOf S v = S .texture (v .texture) .samples
 

@@ -14,7 +14,7 @@ use Rattle.definition.specs.declared.Range.{Range}
 use Rattle.definition.specs.declared.MemoryInitKind.the-variants.{NeedsInitializedMemory}
 use Rattle.definition.specs.Program.{deskcheck}
 use Rattle.definition.specs.Computing.{computing}
-use Rattle.definition.specs.Files.{texture, view, channel, absent, sliceSlot, slot, emptySlot, passOf, colors, depthStencil, file}
+use Rattle.definition.specs.Files.{texture, view, shownAs, channel, absent, sliceSlot, slot, emptySlot, passOf, colors, depthStencil, file}
 
 -- An accepted pass of size n × n: clears returned, discards listed. A refused one: number, place, earlier place, discards as found.
 abbrev accepted : (pass n samples clears discards : ℕ) → List ℕ
@@ -23,11 +23,11 @@ accepted pass n samples clears discards = pass ∷ 0 ∷ 17 ∷ 17 ∷ n ∷ n �
 abbrev refused : (pass number place earlier discards : ℕ) → List ℕ
 refused pass number place earlier discards = pass ∷ number ∷ place ∷ earlier ∷ 0 ∷ 0 ∷ 0 ∷ 0 ∷ discards ∷ []
 
--- Document 01's example of 1112 bytes: Clear with Discard, then Load with Store, in one buffer.
+-- The small example, of 1116 bytes: Clear with Discard, then Load with Store, in one buffer.
 abbrev pub example : List ℕ
 example = file 8 0 0 (texture 3 2 4 1 1 1 16 ∷ []) (view 0 2 1 1 16 0 ∷ []) (colors (slot 0 1 1 ∷ []) ∷ colors (slot 0 0 0 ∷ []) ∷ [])
 
-example-length : length example ≡ 1112
+example-length : length example ≡ 1116
 example-length = refl
 
 printed : deskcheck example ≡ ((0 ∷ 0 ∷ 17 ∷ 17 ∷ 4 ∷ 4 ∷ 1 ∷ 0 ∷ 1 ∷ []) ∷ (1 ∷ 0 ∷ 17 ∷ 17 ∷ 4 ∷ 4 ∷ 1 ∷ 1 ∷ 0 ∷ []) ∷ [])
@@ -172,6 +172,40 @@ resolve-targets : alone (file 8 0 1
     ∷ accepted 0 4 4 0 0 ∷ [])
 unfolding computing
 resolve-targets = refl
+
+-- One texture of format t and a view that shows it in format v. Siblings go both ways; 3 with 5, two depth formats, and 0 are a 4.
+abbrev shown : ℕ → ℕ → List ℕ
+shown t v = file 8 0 0 (texture t 2 4 1 1 1 16 ∷ []) (shownAs v (whole 0) ∷ []) []
+
+abbrev four : List (List ℕ)
+four = (4 ∷ []) ∷ []
+
+shown-formats : all (shown 3 4 ∷ shown 4 3 ∷ shown 5 6 ∷ shown 6 5 ∷ shown 3 5 ∷ shown 4 6 ∷ shown 24 22 ∷ shown 3 0 ∷ [])
+    ≡ ([] ∷ [] ∷ [] ∷ [] ∷ four ∷ four ∷ four ∷ four ∷ [])
+unfolding computing
+shown-formats = refl
+
+-- Texture 0, of four samples and format 3, is shown as 3 and as 4; the targets are texture 1 as 3 and as 4 and texture 2, of format 4, as 4. By the views'
+-- formats: 3 into 3 shown as 4 (43), into 4 (43), into 3; 4 into 3 (43), into 3 shown as 4, into 4. Both views of texture 0 in one pass are a 41 at slot 1.
+sibling-targets : alone (file 8 0 1 (texture 3 2 4 1 1 4 16 ∷ plain ∷ texture 4 2 4 1 1 1 16 ∷ [])
+    (whole 0 ∷ shownAs 4 (whole 0) ∷ view 1 2 1 1 16 1 ∷ shownAs 4 (view 1 2 1 1 16 1) ∷ view 2 2 1 1 16 1 ∷ []))
+    (colors (sliceSlot 0 0 0 3 1 0 ∷ [])
+    ∷ colors (sliceSlot 0 0 0 4 1 0 ∷ [])
+    ∷ colors (sliceSlot 0 0 0 2 1 0 ∷ [])
+    ∷ colors (sliceSlot 1 0 0 2 1 0 ∷ [])
+    ∷ colors (sliceSlot 1 0 0 3 1 0 ∷ [])
+    ∷ colors (sliceSlot 1 0 0 4 1 0 ∷ [])
+    ∷ colors (slot 0 1 0 ∷ slot 1 1 0 ∷ [])
+    ∷ [])
+    ≡ (refused 0 43 8 17 0 ∷ refused 0 43 8 17 0 ∷ accepted 0 4 4 0 0 ∷ refused 0 43 8 17 0 ∷ accepted 0 4 4 0 0 ∷ accepted 0 4 4 0 0 ∷ refused 0 41 1 17 0 ∷ [])
+unfolding computing
+sibling-targets = refl
+
+-- Discarded as 3 and loaded as 4: one surface, so that the load returns the clear.
+sibling-loaded : deskcheck (file 8 0 1 (plain ∷ []) (whole 0 ∷ shownAs 4 (whole 0) ∷ []) (colors (slot 0 1 1 ∷ []) ∷ colors (slot 1 0 0 ∷ []) ∷ []))
+    ≡ (accepted 0 4 1 0 1 ∷ accepted 1 4 1 1 0 ∷ [])
+unfolding computing
+sibling-loaded = refl
 
 -- Buffers: no attachment (46); a discard, and its buffer ends; a load after that returns nothing. A discard, then Load with Discard: one clear, and the
 -- surface is listed again. Flag 2 is a 5 and ends nothing, so that the next load returns it.

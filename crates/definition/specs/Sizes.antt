@@ -13,7 +13,7 @@ abbrev pub textureBytes : ℕ
 textureBytes = 32
 
 abbrev pub viewBytes : ℕ
-viewBytes = 32
+viewBytes = 36
 
 abbrev pub passBytes : ℕ
 passBytes = 504

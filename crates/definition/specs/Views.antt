@@ -65,7 +65,7 @@ unfoldable pub colorView : Session → Seen → List Surface → Slot → View �
 colorView S seen taken c v k =
     multiviewVerdict S seen v k
     then viewVerdict S seen v k
-    then unless (isColor (formatOf S v)) 37 k
+    then unless (isColor (formatOf v)) 37 k
     then sliceVerdict S c v k
     then overlapVerdict taken v (c .slice) k
 
@@ -85,7 +85,7 @@ unfoldable pub targetOf : Session → Seen → View → View → ℕ → Verdict
 targetOf S seen v r place =
     unlessAgainst (sameExtent S v r) 35 place (seen .last)
     then unless (not (eqb (samplesOf S v) 1) && eqb (samplesOf S r) 1) 42 place
-    then unless (eqb (formatOf S v) (formatOf S r)) 43 place
+    then unless (eqb (formatOf v) (formatOf r)) 43 place
     then unless (eqb (r .resolvable) 1) 44 place
     then unless (not (transient r)) 45 place
 

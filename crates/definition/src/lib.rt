@@ -22,7 +22,7 @@ pub struct Aspects {
     pub stencil: bool,
 }
 
-// A view row: `mips` mips from `mip` on, `layers` layers from `layer` on.
+// A view row: `mips` mips from `mip` on, `layers` layers from `layer` on, shown in `format`.
 // Dimension: 1 D1, 2 D2, 3 D2Array, 4 Cube, 5 CubeArray, 6 D3.
 pub struct View {
     pub texture: u32,
@@ -33,6 +33,7 @@ pub struct View {
     pub layers: u32,
     pub usage: u32,
     pub resolvable: u32,
+    pub format: u32,
 }
 
 // The depth or the stencil part of a pass row. Load: 0 Load, 1 Clear, 2 DontCare, 3 absent.

@@ -10,7 +10,7 @@ pub const HEADER_BYTES: usize = 40;
 pub const TEXTURE_BYTES: usize = 32;
 
 // Bytes of a view row.
-pub const VIEW_BYTES: usize = 32;
+pub const VIEW_BYTES: usize = 36;
 
 // Bytes of a pass row.
 pub const PASS_BYTES: usize = 504;

@@ -20,7 +20,6 @@ use depth_stencil::stencil::stencil_channel;
 use depth_stencil::stencil::stencil_resolved;
 use session::colors;
 use session::depth_stencil;
-use session::derived::format_of;
 use session::derived::is_none;
 use session::derived::strict;
 use session::derived::transient;
@@ -106,7 +105,7 @@ fn depth_stencil_ops(s: &[u8], pass: u32) -> Verdict
     channel_ops(
         strict(s),
         transient(v),
-        format_of(s, v),
+        v.format,
         session::depth(s, pass),
         session::stencil(s, pass),
     )

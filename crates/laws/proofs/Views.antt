@@ -8,7 +8,7 @@ use lib.Dec.{leb, ltb, eqb}
 use borrow.Author.Tests.{eqb-true, leb-true}
 use Rattle.definition.specs.Surfaces.{hits, firstOf}
 use Rattle.definition.specs.Session.{Session, arrayLayers, viewRange, renderAttachment, isD2, isD2Array, isD3}
-use Rattle.definition.specs.Readable.{between, usageAmong, dimensionFits, viewInTexture, viewRight}
+use Rattle.definition.specs.Readable.{between, usageAmong, dimensionFits, formatFits, viewInTexture, viewRight}
 use Rattle.definition.specs.Views.{renderable}
 use Rattle.definition.specs.declared.Texture.{Texture}
 use Rattle.definition.specs.declared.View.{View}
@@ -24,7 +24,7 @@ use Rattle.laws.proofs.Surfaces.{hits-in, range-from}
 abbrev viewTests : Texture → View → List Bool
 viewTests t v =
     dimensionFits (v .dimension) (t .dimension) ∷ leb 1 (v .mips) ∷ leb (v .mip + v .mips) (t .mips)
-    ∷ leb 1 (v .layers) ∷ leb (v .layer + v .layers) (arrayLayers t) ∷ usageAmong (v .usage) (t .usage) ∷ leb (v .resolvable) 1 ∷ []
+    ∷ leb 1 (v .layers) ∷ leb (v .layer + v .layers) (arrayLayers t) ∷ usageAmong (v .usage) (t .usage) ∷ leb (v .resolvable) 1 ∷ formatFits (v .format) (t .format) ∷ []
 
 pub valid-view : (S : Session) (v : View) → viewRight S v ≡ true → ValidView S v
 unfolding viewRight viewInTexture
@@ -36,6 +36,7 @@ valid-view S v h =
       dimension = test 0;
       usage = test 5;
       resolvable = leb-true (v .resolvable) 1 (test 6);
+      format = test 7;
     }
 
 -- Every surface of a range of the session is the session's, its first among them.

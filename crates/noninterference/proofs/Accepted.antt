@@ -9,7 +9,7 @@ use borrow.Author.Tests.{leb-true}
 use Rattle.definition.specs.Sizes.{maxSlots}
 use Rattle.definition.specs.Formats.{isColor}
 use Rattle.definition.specs.Surfaces.{elem, meets}
-use Rattle.definition.specs.Session.{Pass, Session, isNone, strict, formatOf, viewRange, transient}
+use Rattle.definition.specs.Session.{Pass, Session, isNone, strict, formatOf, textureFormat, viewRange, transient}
 use Rattle.definition.specs.Verdict.{resolveAt, atDepthStencil, nowhere, fine, isFine, refusedAt, _then_, unless}
 use Rattle.definition.specs.Readable.{viewsRight, channelReads, depthStencilReads, resolveReads, slotReads, slotsRead, passReads}
 use Rattle.definition.specs.Channel.{ignores, keepOf, transientOps}
@@ -71,7 +71,7 @@ fineStep a = isFine (a .verdict)
 
 module _ (S : Session) (vs : viewsRight S ≡ true) where
   -- Its resolve target, where the colour view v takes t.
-  resolve-facts : (s : Slot) (k : ℕ) (v : View) (q : Seen) (taken : List Surface) → resolveReads S (s .resolve) ≡ true → isColor (formatOf S v) ≡ true
+  resolve-facts : (s : Slot) (k : ℕ) (v : View) (q : Seen) (taken : List Surface) → resolveReads S (s .resolve) ≡ true → isColor (formatOf v) ≡ true
       → fineStep (resolveStep S q taken s v k) ≡ true → SlotFacts S (takes v (s .slice) ++ taken) (resolvePart S s) (resolveTakes S s)
   unfolding resolveStep resolvePart resolveReads
   resolve-facts s k v q taken ok col h = go (isNone (s .resolve)) refl h
@@ -123,9 +123,9 @@ module _ (S : Session) (vs : viewsRight S ≡ true) where
           let r3 : (ltb (s .view) (S .viewCount) && leb (s .sliced) 1) ≡ true = and-left _ (resolveReads S (s .resolve)) r2 in
           let known : ViewFacts S v = view-facts S vs (s .view) (and-left (ltb (s .view) (S .viewCount)) (leb (s .sliced) 1) r3) in
           let cares : strict S ≡ true → ignores (slotLoad s) ≡ false = strict-off (ignores (slotLoad s)) (strict S) (unless-on (not (ignores (slotLoad s) && strict S)) 11 k refl (then-left _ _ ops)) in
-          let f : ColorFacts S (colorOf S s) × (meets (takes v (s .slice)) taken ≡ false) = color-facts S s k q taken known cares e in
+          let f : ColorFacts S (colorOf S s) × (meets (takes v (s .slice)) taken ≡ false) × (isColor (formatOf v) ≡ true) = color-facts S s k q taken known cares e in
           slot-more S taken (takes v (s .slice)) (resolveTakes S s) (colorOf S s) (resolvePart S s) (f .0) (λ fl. takes-reached v (s .slice) (f .0 .mip) (known .flat fl)) (f .1)
-          (resolve-facts s k v (seeView S q v k) taken (and-right (ltb (s .view) (S .viewCount) && leb (s .sliced) 1) (resolveReads S (s .resolve)) r2) (f .0 .colored) h)
+          (resolve-facts s k v (seeView S q v k) taken (and-right (ltb (s .view) (S .viewCount) && leb (s .sliced) 1) (resolveReads S (s .resolve)) r2) (f .2) h)
 
       go : (b : Bool) → (b || reads) ≡ true → isFine (cond b fine allowed) ≡ true
           → fineStep (cond b (progress fine q) (colorStep S q taken s v k)) ≡ true
@@ -275,7 +275,7 @@ accepted-okay S vs p h =
     ranges = all-map (ColorFacts S) (Ranged S) (λ y f. record { range = f .range; mip = f .mip }) xs
 
     go : (b : Bool) → (b || ltb (p .depthStencil) (S .viewCount) && channelReads (p .depth) && channelReads (p .stencil)) ≡ true
-        → isFine (cond b fine (channelOps (strict S) (transient v) (formatOf S v) (p .depth) (p .stencil))) ≡ true
+        → isFine (cond b fine (channelOps (strict S) (transient v) (formatOf v) (p .depth) (p .stencil))) ≡ true
         → fineStep (cond b (progress fine noneSeen) (progress (depthStencilView S v) (seeView S noneSeen v atDepthStencil))) ≡ true
         → SlotsFacts S vs p (p .colors)
         → Okay S (_++_ {A = Attached} (cond b [] (x ∷ [])) xs)
@@ -287,7 +287,7 @@ accepted-okay S vs p h =
         record {
           sound = λ st one. (d .sound st one, sounds (sl .facts) st one);
           ranged = (record { range = d .range; mip = d .mip }, ranges (sl .facts));
-          distinct = λ fl. (λ s e. depth-apart S (v .texture) xs (depth-color (formatOf S v) (d .format)) (sl .facts) s (hits-in (rangeIn x) s e .texture), sl .distinct fl);
+          distinct = λ fl. (λ s e. depth-apart S (v .texture) xs (depth-color (textureFormat S v) (d .format)) (sl .facts) s (hits-in (rangeIn x) s e .texture), sl .distinct fl);
           told = ap₂ _∷_ (d .told (divergentOf x)) (all-told S (divergentOf x) xs (sl .facts));
         }
 

@@ -8,9 +8,9 @@ use Prim.Native.Nat.{ℕ, _+_, _<_}
 use lib.Dec.{ltb, eqb}
 use lib.Ieee.{Float}
 use borrow.Author.Tests.{eqb-true, ltb-true}
-use Rattle.definition.specs.Formats.{isColor, isDepthStencil, hasDepth, hasStencil}
+use Rattle.definition.specs.Formats.{isColor, isDepthStencil, aspects, hasDepth, hasStencil}
 use Rattle.definition.specs.Surfaces.{hits, layersOf, elem, meets}
-use Rattle.definition.specs.Session.{Pass, Session, strict, formatOf, viewRange, isD2, isD2Array, isD3, transient}
+use Rattle.definition.specs.Session.{Pass, Session, strict, formatOf, textureFormat, viewRange, isD2, isD2Array, isD3, transient}
 use Rattle.definition.specs.Verdict.{atDepthStencil, isFine, unless}
 use Rattle.definition.specs.Readable.{viewsRight}
 use Rattle.definition.specs.Channel.{LoadOp, loadOp, clearOp, dontCare, Ops, operational, keepOf, ignores, loadBits, storeBits, clearValue, PassChannel, depthChannel, stencilChannel, Handled, value, refusal, resolveReadOnly, withStore, withClear, resolveOps, resolve, handleDepth, handleStencil, resolveDepth, resolveStencil, depthResolved, stencilResolved, resolvedOps}
@@ -27,7 +27,7 @@ use Rattle.definition.specs.declared.Surface.{Surface}
 use Rattle.laws.specs.Surfaces.{RangeInside}
 use Rattle.laws.specs.Views.{ValidView}
 use Rattle.laws.proofs.Tests.{clash, and-on, not-off}
-use Rattle.laws.proofs.Formats.{color-depth, color-stencil, depth-color}
+use Rattle.laws.proofs.Formats.{color-depth, color-stencil, depth-color, fits-color, fits-aspects}
 use Rattle.laws.proofs.Surfaces.{hits-in, layers-all, named-one}
 use Rattle.laws.proofs.Verdicts.{then-left, then-right, unless-on}
 use Rattle.laws.proofs.Folds.{views-each}
@@ -70,17 +70,17 @@ part-told a f o (clearOp x) false = refl
 part-told a f o dontCare true = refl
 part-told a f o dontCare false = refl
 
-resolve-told : (S : Session) (n d : ℕ) → isColor (formatOf S (S .view n)) ≡ true
+resolve-told : (S : Session) (n d : ℕ) → isColor (textureFormat S (S .view n)) ≡ true
     → useOf S d (attachmentReply S (resolveTo n (viewRange (S .view n)))) ≡ plannedUse (resolveTo n (viewRange (S .view n)))
 resolve-told S n d h = rw h
 
-color-told : (S : Session) (n d : ℕ) (o : Ops Color) → isColor (formatOf S (S .view n)) ≡ true
+color-told : (S : Session) (n d : ℕ) (o : Ops Color) → isColor (textureFormat S (S .view n)) ≡ true
     → useOf S d (attachmentReply S (color n (viewRange (S .view n)) o)) ≡ plannedUse (color n (viewRange (S .view n)) o)
 color-told S n d o h =
     rw h (ap (λ q. record { surfaces = layersOf (viewRange (S .view n)); parts = q ∷ []; divergent = 0 }) (part-told colorAspect ofColor black (o .load) (o .keep)))
 
 depth-told : (S : Session) (n : ℕ) (d : Ops Float) (s : Ops ℕ) (hd hs : Bool) (div : ℕ)
-    → isColor (formatOf S (S .view n)) ≡ false → hasDepth (formatOf S (S .view n)) ≡ hd → hasStencil (formatOf S (S .view n)) ≡ hs
+    → isColor (textureFormat S (S .view n)) ≡ false → hasDepth (textureFormat S (S .view n)) ≡ hd → hasStencil (textureFormat S (S .view n)) ≡ hs
     → useOf S div (attachmentReply S (depthStencil n (viewRange (S .view n)) hd hs d s))
     ≡ record { surfaces = layersOf (viewRange (S .view n)); parts = partsOf (depthStencil n (viewRange (S .view n)) hd hs d s); divergent = div }
 depth-told S n d s hd hs div h p q =
@@ -146,7 +146,7 @@ strict-off true b h e = clash e (not-off b h)
 strict-off false b h e = refl
 
 -- A resolve target: 41, 34, 43.
-pub target-facts : (S : Session) (v : View) (n place : ℕ) (q : Seen) (taken : List Surface) → ViewFacts S (S .view n) → isColor (formatOf S v) ≡ true
+pub target-facts : (S : Session) (v : View) (n place : ℕ) (q : Seen) (taken : List Surface) → ViewFacts S (S .view n) → isColor (formatOf v) ≡ true
     → isFine (resolveView S q taken v (S .view n) place) ≡ true
     → ColorFacts S (resolveTo n (viewRange (S .view n))) × (meets (takes (S .view n) 0) taken ≡ false)
 unfolding resolveView targetView targetOf overlapVerdict
@@ -157,12 +157,12 @@ target-facts S v n place q taken known col h =
     let on-34 = then-right (overlapVerdict taken r 0 place) _ from-41 in
     let from-42 = then-right _ _ (then-right (targetView S q taken r place) _ h) in
     let from-43 = then-right _ _ from-42 in
-    let same-format : formatOf S v ≡ formatOf S r = eqb-true _ _ (unless-on (eqb (formatOf S v) (formatOf S r)) 43 place refl (then-left _ _ from-43)) in
-    let rcol : isColor (formatOf S r) ≡ true = ap isColor (sym same-format) ∙ col in
+    let same-format : formatOf v ≡ formatOf r = eqb-true _ _ (unless-on (eqb (formatOf v) (formatOf r)) 43 place refl (then-left _ _ from-43)) in
+    let rcol : isColor (textureFormat S r) ≡ true = sym (fits-color (formatOf r) (textureFormat S r) (known .valid .format)) ∙ ap isColor (sym same-format) ∙ col in
     let mip : r .mips ≡ 1 = renderable-mip r (unless-on (renderable r) 34 place refl on-34) in (
       record {
         sound = λ st one. sound-of S (resolveTo n (viewRange r)) (known .valid .range) mip (known .single one) refl
-            (color-aspects (formatOf S r) rcol (record { aspect = colorAspect; input = nothing; keep = true }) refl);
+            (color-aspects (textureFormat S r) rcol (record { aspect = colorAspect; input = nothing; keep = true }) refl);
         range = known .valid .range;
         mip = mip;
         colored = rcol;
@@ -174,24 +174,26 @@ target-facts S v n place q taken known col h =
 -- A colour: 11, 34, 37, 41.
 pub color-facts : (S : Session) (c : Slot) (k : ℕ) (q : Seen) (taken : List Surface) → ViewFacts S (S .view (c .view)) → (strict S ≡ true → ignores (slotLoad c) ≡ false)
     → isFine (colorView S q taken c (S .view (c .view)) k) ≡ true
-    → ColorFacts S (colorOf S c) × (meets (takes (S .view (c .view)) (c .slice)) taken ≡ false)
+    → ColorFacts S (colorOf S c) × (meets (takes (S .view (c .view)) (c .slice)) taken ≡ false) × (isColor (formatOf (S .view (c .view))) ≡ true)
 unfolding colorView viewVerdict overlapVerdict
 color-facts S c k q taken known cares h =
     let v : View = S .view (c .view) in
     let from-34 = then-right (multiviewVerdict S q v k) _ h in
     let from-37 = then-right (viewVerdict S q v k) _ from-34 in
-    let from-38 = then-right (unless (isColor (formatOf S v)) 37 k) _ from-37 in
-    let col : isColor (formatOf S v) ≡ true = unless-on (isColor (formatOf S v)) 37 k refl (then-left _ _ from-37) in
+    let from-38 = then-right (unless (isColor (formatOf v)) 37 k) _ from-37 in
+    let shown : isColor (formatOf v) ≡ true = unless-on (isColor (formatOf v)) 37 k refl (then-left _ _ from-37) in
+    let col : isColor (textureFormat S v) ≡ true = sym (fits-color (formatOf v) (textureFormat S v) (known .valid .format)) ∙ shown in
     let mip : v .mips ≡ 1 = renderable-mip v (unless-on (renderable v) 34 k refl (then-left _ _ (then-left (viewVerdict S q v k) _ from-34))) in (
       record {
         sound = λ st one. sound-of S (colorOf S c) (known .valid .range) mip (known .single one) (ap not (cares st))
-            (color-aspects (formatOf S v) col (partOf colorAspect ofColor (operational (slotLoad c) (keepOf (c .store)))) refl);
+            (color-aspects (textureFormat S v) col (partOf colorAspect ofColor (operational (slotLoad c) (keepOf (c .store)))) refl);
         range = known .valid .range;
         mip = mip;
         colored = col;
         told = λ d. color-told S (c .view) d (operational (slotLoad c) (keepOf (c .store))) col;
       },
       not-off _ (unless-on (not (meets (takes v (c .slice)) taken)) 41 k refl (then-right (sliceVerdict S c v k) _ from-38)),
+      shown,
     )
 
 -- ── the depth-stencil attachment
@@ -240,18 +242,23 @@ pub record DepthFacts (S : Session) (p : Pass) : Type 0 where
   pub sound : strict S ≡ true → Single S → Sound S (depthStencilOf S p (S .view (p .depthStencil)))
   pub range : RangeInside S (viewRange (S .view (p .depthStencil)))
   pub mip : S .view (p .depthStencil) .mips ≡ 1
-  pub format : isDepthStencil (formatOf S (S .view (p .depthStencil))) ≡ true
+  pub format : isDepthStencil (textureFormat S (S .view (p .depthStencil))) ≡ true
   pub told : (d : ℕ) → useOf S d (attachmentReply S (depthStencilOf S p (S .view (p .depthStencil))))
       ≡ record { surfaces = layersOf (viewRange (S .view (p .depthStencil))); parts = partsOf (depthStencilOf S p (S .view (p .depthStencil))); divergent = d }
 
 pub depth-facts : (S : Session) (p : Pass) → ViewFacts S (S .view (p .depthStencil))
-    → isFine (channelOps (strict S) (transient (S .view (p .depthStencil))) (formatOf S (S .view (p .depthStencil))) (p .depth) (p .stencil)) ≡ true
+    → isFine (channelOps (strict S) (transient (S .view (p .depthStencil))) (formatOf (S .view (p .depthStencil))) (p .depth) (p .stencil)) ≡ true
     → isFine (depthStencilView S (S .view (p .depthStencil))) ≡ true → DepthFacts S p
 unfolding channelOps depthStencilView viewVerdict
 depth-facts S p known ops h =
     let v : View = S .view (p .depthStencil) in
-    let f : ℕ = formatOf S v in
+    let f : ℕ = formatOf v in
+    let t : ℕ = textureFormat S v in
     let ds : isDepthStencil f ≡ true = unless-on (isDepthStencil f) 13 atDepthStencil refl (then-left _ _ ops) in
+    let alike : aspects t ≡ aspects f = sym (fits-aspects f t (known .valid .format)) in
+    let own : isDepthStencil t ≡ true = ap (λ a. a .depth || a .stencil) alike ∙ ds in
+    let depths : hasDepth t ≡ hasDepth f = ap (λ a. a .depth) alike in
+    let stencils : hasStencil t ≡ hasStencil f = ap (λ a. a .stencil) alike in
     let mip : v .mips ≡ 1 = renderable-mip v (unless-on (renderable v) 34 atDepthStencil refl (then-left _ _ (then-right (multiviewVerdict S noneSeen v atDepthStencil) (viewVerdict S noneSeen v atDepthStencil) h))) in
     record {
       sound = λ st one. sound-of S (depthStencilOf S p v) (known .valid .range) mip (known .single one)
@@ -259,9 +266,9 @@ depth-facts S p known ops h =
           (and-on (hasDepth f || hasStencil f) _ ds
           (subst (λ b. not (hasDepth f && ignores (resolvedOps (depthResolved (hasDepth f) b (p .depth)) .load)) ≡ true) (sym st) (depth-cares (hasDepth f) (p .depth))))
           (subst (λ b. not (hasStencil f && ignores (resolvedOps (stencilResolved (hasStencil f) b (p .stencil)) .load)) ≡ true) (sym st) (stencil-cares (hasStencil f) (p .stencil))))
-          (depth-aspects f ds (hasDepth f) (hasStencil f) refl refl (partOf depthAspect ofDepth (depthOps S p f)) (partOf stencilAspect ofStencil (stencilOps S p f)) refl refl);
+          (depth-aspects t own (hasDepth f) (hasStencil f) depths stencils (partOf depthAspect ofDepth (depthOps S p f)) (partOf stencilAspect ofStencil (stencilOps S p f)) refl refl);
       range = known .valid .range;
       mip = mip;
-      format = ds;
-      told = λ d. depth-told S (p .depthStencil) (depthOps S p f) (stencilOps S p f) (hasDepth f) (hasStencil f) d (depth-color f ds) refl refl;
+      format = own;
+      told = λ d. depth-told S (p .depthStencil) (depthOps S p f) (stencilOps S p f) (hasDepth f) (hasStencil f) d (depth-color t own) depths stencils;
     }

@@ -14,7 +14,7 @@ use Rattle.definition.specs.Readable.{sessionRefusal}
 use Rattle.definition.specs.Status.{filled}
 use Rattle.definition.specs.Calls.{fresh, Call, pass, submit}
 use Rattle.definition.specs.Computing.{computing}
-use Rattle.definition.specs.Files.{texture, view, channel, sliceSlot, slot, colors, depthStencil, file}
+use Rattle.definition.specs.Files.{texture, view, shownAs, channel, sliceSlot, slot, colors, depthStencil, file}
 use Rattle.definition.specs.declared.Surface.{Surface}
 use Rattle.laws.specs.Surfaces.{Inside}
 use Rattle.laws.proofs.Tests.{clash}
@@ -56,8 +56,11 @@ drawing = record { nil = 0; clearTo = λ a c. 1; draw = λ n v s a. 100 + n }
 abbrev contents : Contents ℕ
 contents = record { first = λ s a. 5; left = λ n s a. 7 }
 
+abbrev runOf : List ℕ → List Call → List (List ℕ)
+runOf s calls = loadedBy drawing contents (session s) fresh calls
+
 abbrev run : List Call → List (List ℕ)
-run calls = loadedBy drawing contents (session strictFile) fresh calls
+run = runOf strictFile
 
 -- The first load shows zero; so does one after a discard, in the same buffer or in the next; a load after a store shows what was drawn, and a
 -- divergent aspect is zero.
@@ -75,6 +78,21 @@ pub computed : (run (pass 1 ∷ submit ∷ [])
     ∷ [])
 unfolding computing
 computed = refl
+
+-- One texture, shown as 3 by view 0 and as 4 by view 1. Passes: 0 Clear with Store as 3; 1 Load with Store as 4; 2 Clear with Discard as 3.
+abbrev siblingsFile : List ℕ
+siblingsFile =
+    file 8 0 1 (texture 3 2 4 1 1 1 16 ∷ []) (view 0 2 1 1 16 0 ∷ shownAs 4 (view 0 2 1 1 16 0) ∷ [])
+    (colors (slot 0 1 0 ∷ []) ∷ colors (slot 1 0 0 ∷ []) ∷ colors (slot 0 1 1 ∷ []) ∷ [])
+
+-- Siblings share their memory: the load as 4 shows what was drawn as 3, and zero where that was discarded, in the same buffer or in the next.
+pub siblings : (runOf siblingsFile (pass 0 ∷ submit ∷ pass 1 ∷ submit ∷ [])
+    ∷ runOf siblingsFile (pass 0 ∷ pass 2 ∷ pass 1 ∷ submit ∷ [])
+    ∷ runOf siblingsFile (pass 2 ∷ submit ∷ pass 1 ∷ submit ∷ [])
+    ∷ [])
+    ≡ (((1 ∷ []) ∷ (100 ∷ []) ∷ []) ∷ ((1 ∷ []) ∷ (1 ∷ []) ∷ (0 ∷ []) ∷ []) ∷ ((1 ∷ []) ∷ (0 ∷ []) ∷ []) ∷ [])
+unfolding computing
+siblings = refl
 
 -- What is left: what was there before any submission, what a discard left, what was drawn, and the zero of the divergent aspect.
 pub remains : (memoryAfter drawing contents (session strictFile) fresh (pass 0 ∷ []) (surfaceAt 0 0 0) colorAspect

@@ -10,7 +10,7 @@ use lib.ListN.{getD}
 use Rattle.definition.specs.Bytes.{bit}
 use Rattle.definition.specs.Formats.{isColor, hasDepth, hasStencil}
 use Rattle.definition.specs.Surfaces.{layersOf, elem}
-use Rattle.definition.specs.Session.{Session, formatOf, viewRange, surfaceIndex}
+use Rattle.definition.specs.Session.{Session, textureFormat, viewRange, surfaceIndex}
 use Rattle.definition.specs.Verdict.{isFine}
 use Rattle.definition.specs.Status.{cleared}
 use Rattle.definition.specs.Pass.{Reply}
@@ -92,7 +92,7 @@ depthStencilParts f x =
     cond (hasDepth f) (partIn depthAspect (x .ops) (ofDepth (x .depth)) ∷ []) []
     ++ cond (hasStencil f) (partIn stencilAspect (x .«stencil_ops») (ofStencil (x .stencil)) ∷ []) []
 
--- An attachment of a format, in a reply with a divergent aspect.
+-- An attachment of a texture of a format, in a reply with a divergent aspect.
 abbrev pub useIn : ℕ → ℕ → List Surface → Attachment → Use
 useIn divergent f surfaces x =
     cond (isColor f)
@@ -100,7 +100,7 @@ useIn divergent f surfaces x =
     (record { surfaces = surfaces; parts = depthStencilParts f x; divergent = divergent })
 
 abbrev pub useOf : Session → ℕ → Attachment → Use
-useOf S divergent x = useIn divergent (formatOf S (S .view (x .view))) (layersOf (viewRange (S .view (x .view)))) x
+useOf S divergent x = useIn divergent (textureFormat S (S .view (x .view))) (layersOf (viewRange (S .view (x .view)))) x
 
 abbrev pub told : Session → ℕ → Reply → Told
 told S n r = record { number = n; uses = map (useOf S (r .divergent)) (r .attachments); clears = r .clears }

@@ -26,6 +26,7 @@ use session::derived::is_none;
 use session::ends;
 use session::formats::is_color;
 use session::formats::is_format;
+use session::formats::remove_srgb_suffix;
 use session::header::PASS_OFFSET;
 use session::header::TEXTURE_OFFSET;
 use session::header::VIEW_OFFSET;
@@ -140,6 +141,13 @@ fn dimension_fits(v: u32, t: u32) -> bool
     (v == 1) & (t == 1) | (v == 6) & (t == 3) | between(2, 5, v) & (t == 2)
 }
 
+// W3C "texture view format compatible": whether a view may show a texture of format t in format v.
+fn format_fits(v: u32, t: u32) -> bool
+    ensures { λ r. ⌜ r ≡ Re.formatFits v t ⌝ }
+{
+    remove_srgb_suffix(v) == remove_srgb_suffix(t)
+}
+
 // W3C "texture view creation": whether a view's ranges are non-empty and inside the texture, and its other fields fit.
 fn view_in_texture(t: Texture, v: View) -> bool
     ensures { λ r. ⌜ r ≡ Re.viewInTexture t v ⌝ }
@@ -151,6 +159,7 @@ fn view_in_texture(t: Texture, v: View) -> bool
         & ends_by(v.layer, v.layers, array_layers(t))
         & usage_among(v.usage, t.usage)
         & (v.resolvable <= 1)
+        & format_fits(v.format, t.format)
 }
 
 // Whether a view row can be read.

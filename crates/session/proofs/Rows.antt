@@ -1,11 +1,13 @@
--- View rows stand after the session's own textures.
-use mathlib.Core.Path.{_≡_, ap}
+-- View rows stand after the session's own textures, and a view takes what its shape takes.
+use mathlib.Core.Path.{_≡_, ap, _∙_}
 use mathlib.Core.List.{List}
-use Prim.Native.Nat.{ℕ, _+_, _*_}
-use Rattle.definition.specs.Sizes.{headerBytes, textureBytes, viewBytes}
+use Prim.Native.Nat.{ℕ}
 use Rattle.definition.specs.Session.{session, viewAt}
-use Rattle.session.specs.Rows.{viewAfter}
+use Rattle.definition.specs.Views.{takes}
+use Rattle.definition.specs.declared.View.{View}
+use Rattle.session.specs.Rows.{viewRow, viewAfter, shapeOf}
 
-pub view-row : (s : List ℕ) (textures k : ℕ) → textures ≡ session s .textureCount → viewAfter s textures k ≡ session s .view k
-unfolding session
-view-row s textures k e = ap (λ n. viewAt s (headerBytes + textureBytes * n + viewBytes * k)) e
+pub shape-takes : (s : List ℕ) (textures k slice : ℕ) (v : View) → v ≡ shapeOf (viewAfter s textures k) → textures ≡ session s .textureCount
+    → takes v slice ≡ takes (session s .view k) slice
+unfolding session takes
+shape-takes s textures k slice v e n = ap (λ q. takes q slice) (e ∙ ap (λ m. shapeOf (viewAt s (viewRow m k))) n)

@@ -8,8 +8,25 @@ use Rattle.definition.specs.declared.View.{View}
 use Rattle.session.specs.declared.SlotViews.{SlotViews}
 
 -- View row k, after so many textures.
+abbrev pub viewRow : ℕ → ℕ → ℕ
+viewRow textures k = headerBytes + textureBytes * textures + viewBytes * k
+
 abbrev pub viewAfter : List ℕ → ℕ → ℕ → View
-viewAfter s textures k = viewAt s (headerBytes + textureBytes * textures + viewBytes * k)
+viewAfter s textures k = viewAt s (viewRow textures k)
+
+-- A view without its format: what tells the surfaces that it takes.
+abbrev pub shapeOf : View → View
+shapeOf v = record {
+  texture = v .texture;
+  dimension = v .dimension;
+  mip = v .mip;
+  mips = v .mips;
+  layer = v .layer;
+  layers = v .layers;
+  usage = v .usage;
+  resolvable = v .resolvable;
+  format = 0;
+}
 
 abbrev pub passRow : List ℕ → ℕ → ℕ
 passRow s k = passStart s + passBytes * k

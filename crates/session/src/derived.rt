@@ -90,14 +90,6 @@ pub fn array_layers(t: Texture) -> u32
     }
 }
 
-// A view's format: its texture's.
-pub fn format_of(s: &[u8], v: View) -> u32
-    ensures { λ r. ⌜ r ≡ Se.formatOf (session (now (s .entry))) v ⌝ }
-{
-    let t = texture(s, v.texture);
-    t.format
-}
-
 // A view's samples: its texture's.
 pub fn samples_of(s: &[u8], v: View) -> u32
     ensures { λ r. ⌜ r ≡ Se.samplesOf (session (now (s .entry))) v ⌝ }

@@ -1,10 +1,10 @@
-// Texture formats by document 01's numbers, their aspects, and mip sizes. Every number has an answer: a number that is no
+// Texture formats by document 01's numbers, their aspects and siblings, and mip sizes. Every number has an answer: a number that is no
 // format has no aspect, and a mip past the last has size 1.
 use definition::Aspects;
 ghost use mathlib.Core.Path.{_≡_};
 ghost use Prim.Native.Nat.{_/_, _^_, _%_};
 ghost use Rattle.definition.specs.Formats as Fo;
-ghost use Rattle.definition.specs.Formats.{isColor, isDepthStencil, isFormat, hasDepth, hasStencil, mipSize};
+ghost use Rattle.definition.specs.Formats.{isColor, isDepthStencil, isFormat, hasDepth, hasStencil, removeSrgbSuffix, mipSize};
 
 // W3C "Plain color formats": 1 r8unorm to 14 rg11b10ufloat.
 pub fn is_color(format: u32) -> bool
@@ -54,6 +54,17 @@ pub fn is_format(format: u32) -> bool
     ensures { λ r. ⌜ r ≡ isFormat format ⌝ }
 {
     is_color(format) | is_depth_stencil(format)
+}
+
+// The format without its sRGB suffix.
+pub fn remove_srgb_suffix(format: u32) -> u32
+    ensures { λ r. ⌜ r ≡ removeSrgbSuffix format ⌝ }
+{
+    match format {
+        4 => 3, // rgba8unorm-srgb
+        6 => 5, // bgra8unorm-srgb
+        _ => format,
+    }
 }
 
 // The size divided by 2 to the mip, rounded down. Of a mip the low 5 bits count: a u32 has no more.

@@ -27,7 +27,7 @@ ghost use mathlib.Core.Path.{_≡_};
 ghost use Prim.Native.Nat.{_+_, _*_, _≤_};
 ghost use Rattle.definition.specs.Session as Se;
 ghost use Rattle.definition.specs.Session.{session};
-ghost use Rattle.session.specs.Rows.{viewAfter, passRow, slotRow, viewsOf};
+ghost use Rattle.session.specs.Rows.{viewRow, viewAfter, shapeOf, passRow, slotRow, viewsOf};
 
 // The views of a colour slot and the slice of its colour view.
 pub struct SlotViews {
@@ -35,6 +35,9 @@ pub struct SlotViews {
     pub slice: u32,
     pub resolve: u32,
 }
+
+// Where a view row's format stands, after eight numbers.
+const VIEW_FORMAT: usize = 32;
 
 // Where a pass row's multiview mask stands, after the colour count.
 const MASK: usize = 4;
@@ -85,12 +88,18 @@ pub fn texture(s: &[u8], k: u32) -> Texture
     }
 }
 
-// View row k, after so many textures.
-pub fn view_after(s: &[u8], textures: u32, k: u32) -> View
-    ensures { λ r. ⌜ r ≡ viewAfter (now (s .entry)) textures k ⌝ }
+// Where view row k starts, after so many textures.
+fn view_at(textures: u32, k: u32) -> usize
+    ensures { λ r. ⌜ (r ≡ viewRow textures k) × (r ≤ 1000000000000) ⌝ }
 {
-    let start = HEADER_BYTES + TEXTURE_BYTES * (textures as usize);
-    let row = eight_at(s, start + VIEW_BYTES * (k as usize));
+    HEADER_BYTES + TEXTURE_BYTES * (textures as usize) + VIEW_BYTES * (k as usize)
+}
+
+// View row k, after so many textures, without its format: what tells the surfaces that it takes.
+pub fn view_shape(s: &[u8], textures: u32, k: u32) -> View
+    ensures { λ r. ⌜ r ≡ shapeOf (viewAfter (now (s .entry)) textures k) ⌝ }
+{
+    let row = eight_at(s, view_at(textures, k));
     View {
         texture: row.n0,
         dimension: row.n1,
@@ -100,6 +109,7 @@ pub fn view_after(s: &[u8], textures: u32, k: u32) -> View
         layers: row.n5,
         usage: row.n6,
         resolvable: row.n7,
+        format: 0,
     }
 }
 
@@ -107,7 +117,10 @@ pub fn view_after(s: &[u8], textures: u32, k: u32) -> View
 pub fn view(s: &[u8], k: u32) -> View
     ensures { λ r. ⌜ r ≡ session (now (s .entry)) .view k ⌝ }
 {
-    view_after(s, texture_count(s), k)
+    let textures = texture_count(s);
+    let mut v = view_shape(s, textures, k);
+    v.format = u32_at(s, view_at(textures, k) + VIEW_FORMAT);
+    v
 }
 
 // Where pass row k starts.

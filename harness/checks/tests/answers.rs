@@ -6,6 +6,7 @@ use std::fs;
 use checks::answers::{from_bytes, list, replay, to_bytes, Record};
 use checks::examples::repository;
 use checks::reference::Model;
+use sessions::reader::read;
 
 /// The committed list.
 fn committed() -> Vec<u8> {
@@ -14,7 +15,7 @@ fn committed() -> Vec<u8> {
 
 #[test]
 fn it_is_what_its_seed_makes() {
-    assert!(to_bytes(&list(9_001, 510)) == committed());
+    assert!(to_bytes(&list(9_004, 510)) == committed());
 }
 
 #[test]
@@ -24,7 +25,7 @@ fn it_has_500_sessions_and_is_small() {
     let records = from_bytes(&bytes).unwrap();
     assert!(records.len() >= 500);
     assert!(to_bytes(&records) == bytes);
-    assert_eq!(records[0].session.len(), 1112);
+    assert_eq!(records[0].session.len(), 1116);
     assert_eq!(from_bytes(&bytes[..bytes.len() - 1]), None);
 }
 
@@ -47,6 +48,17 @@ fn it_shows_every_number_that_is_compared() {
         assert!(*times >= 3, "number {number}: {times}\n{seen:?}");
     }
     assert!(seen[&0] > 150, "{seen:?}");
+}
+
+#[test]
+fn it_shows_siblings() {
+    let records = from_bytes(&committed()).unwrap();
+    let readable = records.iter().filter_map(|r| read(&r.session).ok());
+    let shown = readable.filter(|s| {
+        let mut views = s.views.iter();
+        views.any(|v| v.format != s.textures[v.texture as usize].format)
+    });
+    assert!(shown.count() > 100);
 }
 
 #[test]

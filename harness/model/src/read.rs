@@ -221,7 +221,7 @@ fn texture(bytes: &[u8], at: usize) -> Option<Texture> {
 /// A view row, unless a field refuses it.
 fn view(bytes: &[u8], at: usize, textures: &[Texture]) -> Option<View> {
     let f: [u32; VIEW_FIELDS] = std::array::from_fn(|i| u32_at(bytes, at + FIELD_LEN * i));
-    let [texture, dimension, mip, mips, layer, layers, usage, resolvable] = f;
+    let [texture, dimension, mip, mips, layer, layers, usage, resolvable, format] = f;
     let t = textures.get(texture as usize)?;
     let pair = match t.dimension {
         1 => dimension == D1,
@@ -236,7 +236,8 @@ fn view(bytes: &[u8], at: usize, textures: &[Texture]) -> Option<View> {
         && mips_end <= t.mips
         && layers_end <= t.layers
         && usage & t.usage == usage
-        && resolvable < 2;
+        && resolvable < 2
+        && (format == t.format || matches!((format, t.format), (3, 4) | (4, 3) | (5, 6) | (6, 5)));
     lawful.then(|| View {
         number: 0,
         texture,
@@ -245,7 +246,7 @@ fn view(bytes: &[u8], at: usize, textures: &[Texture]) -> Option<View> {
         layers: (layer, layers_end),
         usage,
         resolvable: resolvable == 1,
-        format: t.format,
+        format,
         samples: t.samples,
         width: mip_size(t.width, mip),
         height: mip_size(t.height, mip),

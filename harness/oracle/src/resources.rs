@@ -130,7 +130,7 @@ fn view(
             layers: row.base_layer..row.base_layer + row.layer_count,
         },
         desc: ViewDescriptor {
-            format: format(texture.format),
+            format: format(row.format),
             dimension: view_dimension(row.dimension),
             usage: TextureUsages(row.usage),
             range: ViewRange {

@@ -2,7 +2,7 @@
 
 use crate::layout::{FIELD_LEN, HEADER_FIELDS, HEADER_LEN, TOTAL_AT};
 use crate::random::Prng;
-use crate::rows::{Header, Row};
+use crate::rows::{Header, Row, Session};
 
 /// A copy with one bit changed.
 pub fn flip_bit(bytes: &[u8], bit: usize) -> Vec<u8> {
@@ -51,7 +51,7 @@ pub fn random(bytes: &[u8], prng: &mut Prng) -> Vec<u8> {
         return resize(bytes, bytes.len() + 1, false);
     }
     let told = prng.chance(50);
-    match prng.below(8) {
+    match prng.below(9) {
         0 => resize(bytes, prng.below(bytes.len() as u32 + 1) as usize, told),
         1 => resize(bytes, bytes.len() + 1 + prng.below(600) as usize, told),
         2 => shift_header_field(
@@ -60,8 +60,19 @@ pub fn random(bytes: &[u8], prng: &mut Prng) -> Vec<u8> {
             prng.pick(&[-1, 1]),
         ),
         3 => flip_bit(bytes, prng.below(bytes.len() as u32 * 8) as usize),
+        4 => random_view_format(bytes, prng),
         _ => random_field(bytes, prng),
     }
+}
+
+/// A copy in which a view has a format at random, or none's number.
+fn random_view_format(bytes: &[u8], prng: &mut Prng) -> Vec<u8> {
+    let Some(mut session) = Session::decode(bytes).filter(|s| !s.views.is_empty()) else {
+        return random_field(bytes, prng);
+    };
+    let view = prng.below(session.views.len() as u32);
+    session.views[view as usize].format = prng.below(27);
+    session.to_bytes()
 }
 
 /// A copy with one field of the header, a texture, a view or a pass replaced by a small or

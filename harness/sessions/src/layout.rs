@@ -10,7 +10,7 @@ pub const HEADER_FIELDS: usize = 10;
 /// Fields of a texture row.
 pub const TEXTURE_FIELDS: usize = 8;
 /// Fields of a view row.
-pub const VIEW_FIELDS: usize = 8;
+pub const VIEW_FIELDS: usize = 9;
 /// Fields of a depth or stencil channel.
 pub const CHANNEL_FIELDS: usize = 5;
 /// Fields of a pass row before its channels.

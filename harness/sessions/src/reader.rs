@@ -83,6 +83,18 @@ fn view_fits(session: &Session, v: &View) -> bool {
         && range_fits(v.base_layer, v.layer_count, layers(t))
         && v.usage & !t.usage == 0
         && v.resolvable <= 1
+        && (v.format == t.format || v.format == sibling(t.format))
+}
+
+/// The format that differs in the sRGB suffix alone, or the format itself.
+pub fn sibling(format: u32) -> u32 {
+    match format {
+        3 => 4,
+        4 => 3,
+        5 => 6,
+        6 => 5,
+        _ => format,
+    }
 }
 
 /// A range that is not empty and ends at or before `end`.

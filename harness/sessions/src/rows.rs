@@ -38,6 +38,7 @@ pub struct View {
     pub layer_count: u32,
     pub usage: u32,
     pub resolvable: u32,
+    pub format: u32,
 }
 
 /// The depth or stencil channel of a pass row.
@@ -160,6 +161,7 @@ pub const PLAIN_VIEW: View = View {
     layer_count: 1,
     usage: RENDER_ATTACHMENT,
     resolvable: 1,
+    format: PLAIN_TEXTURE.format,
 };
 
 /// A row of little-endian u32 fields.
@@ -268,6 +270,7 @@ impl Row for View {
             layer_count: f[5],
             usage: f[6],
             resolvable: f[7],
+            format: f[8],
         }
     }
 
@@ -281,6 +284,7 @@ impl Row for View {
             self.layer_count,
             self.usage,
             self.resolvable,
+            self.format,
         ]
     }
 }

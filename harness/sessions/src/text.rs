@@ -68,7 +68,10 @@ pub fn lines() -> impl Iterator<Item = &'static str> {
 
 /// What the lines read so far stand for.
 struct Maker {
+    /// All but the views.
     session: Session,
+    /// The views, and whether each says its format.
+    views: Vec<(View, bool)>,
     last: Last,
     /// Colour lines of the last pass.
     slots: usize,
@@ -85,6 +88,7 @@ impl Maker {
     fn new() -> Self {
         Maker {
             session: Session::new(),
+            views: Vec::new(),
             last: Last::Nothing,
             slots: 0,
             counted: true,
@@ -132,10 +136,11 @@ impl Maker {
         Ok(())
     }
 
-    /// A view row.
+    /// A view row; its texture may stand further down.
     fn view_line(&mut self, pairs: &[&str]) -> Result<(), String> {
         let row = set(&PLAIN_VIEW, VIEW_KEYS, pairs)?;
-        self.session.views.push(row);
+        let said = take(pairs, "format").0.is_some();
+        self.views.push((row, said));
         self.last = Last::View;
         Ok(())
     }
@@ -200,7 +205,7 @@ impl Maker {
             match self.last {
                 Last::Nothing => return Err("nothing to repeat".into()),
                 Last::Texture => repeat_last(&mut self.session.textures),
-                Last::View => repeat_last(&mut self.session.views),
+                Last::View => repeat_last(&mut self.views),
                 Last::Pass => repeat_last(&mut self.session.passes),
             }
         }
@@ -237,11 +242,22 @@ impl Maker {
         Ok(())
     }
 
+    /// A view's row; where its format is not said, it is its texture's.
+    fn row(&self, (row, said): &(View, bool)) -> View {
+        let format = if *said {
+            row.format
+        } else {
+            texture_format(&self.session, row)
+        };
+        View { format, ..*row }
+    }
+
     /// The file.
-    fn finish(self) -> Result<Vec<u8>, String> {
+    fn finish(mut self) -> Result<Vec<u8>, String> {
         if let Some(raw) = self.raw {
             return Ok(raw);
         }
+        self.session.views = self.views.iter().map(|view| self.row(view)).collect();
         let mut bytes = self.session.to_bytes();
         for (at, value) in self.header {
             bytes[at * FIELD_LEN..(at + 1) * FIELD_LEN].copy_from_slice(&value.to_le_bytes());
@@ -251,6 +267,12 @@ impl Maker {
         }
         Ok(bytes)
     }
+}
+
+/// The format of a view's texture; 0 where there is no such texture.
+fn texture_format(session: &Session, view: &View) -> u32 {
+    let texture = session.textures.get(view.texture as usize);
+    texture.map_or(0, |texture| texture.format)
 }
 
 /// Appends a copy of the last row.
@@ -412,7 +434,11 @@ fn rows_text(session: &Session) -> String {
         format!("texture{}\n", pairs(row, &PLAIN_TEXTURE, TEXTURE_KEYS))
     });
     text += &repeated(&session.views, |row| {
-        format!("view{}\n", pairs(row, &PLAIN_VIEW, VIEW_KEYS))
+        let plain = View {
+            format: texture_format(session, row),
+            ..PLAIN_VIEW
+        };
+        format!("view{}\n", pairs(row, &plain, VIEW_KEYS))
     });
     text += &repeated(&session.passes, pass_text);
     text

@@ -58,6 +58,7 @@ pub const VIEW_KEYS: &[Key] = &[
     Key("layers", Words::Number),
     Key("usage", Words::Bits(&USAGE)),
     Key("resolvable", Words::Number),
+    Key("format", Words::Names(&FORMAT)),
 ];
 
 /// A pass row's own fields; its depth-stencil view stands in a line of its own.
@@ -166,6 +167,7 @@ fn keys<'a>(
             },
             default: match (line, *key) {
                 ("header", _) => Default::Words("as the rows ask"),
+                ("view", "format") => Default::Words("its texture's"),
                 ("pass", "colours") => Default::Words("how many `colour` lines follow"),
                 (_, "clear-given") => Default::Words("1 where `clear` is written, else 0"),
                 (_, "slice-given") => Default::Words("1 where `slice` is written, else 0"),

@@ -7,14 +7,14 @@ use sessions::text;
 
 #[test]
 fn sizes_are_document_01s() {
-    assert_eq!((HEADER_LEN, TEXTURE_LEN, VIEW_LEN), (40, 32, 32));
+    assert_eq!((HEADER_LEN, TEXTURE_LEN, VIEW_LEN), (40, 32, 36));
     assert_eq!((PASS_LEN, SLOT_LEN, SLOTS), (504, 56, 8));
     assert_eq!((PASS_FRONT_LEN, CHANNEL_LEN), (56, 20));
     assert_eq!((MAX_TEXTURES, MAX_VIEWS, MAX_PASSES), (64, 256, 100));
     assert_eq!((MAX_SURFACES, MAX_MULTIVIEW, ALL_FLAGS), (4096, 32, 15));
     assert_eq!((MAX_SIZE, MAX_LAYERS, MAX_MIPS), (16384, 32, 15));
     assert_eq!((SAMPLES, ALL_USAGES), ([1, 2, 4, 8, 16], 63));
-    assert_eq!(LONGEST, 60680);
+    assert_eq!(LONGEST, 61704);
 }
 
 #[test]
@@ -60,26 +60,26 @@ fn fields_stand_where_document_01_puts_them() {
                 colour view=0 slice=7 resolve=0 load=dont-care store=discard clear=1,0,0,-0.0\n";
     let bytes = text::to_bytes(text).unwrap();
     let at = |offset: usize| u32::from_le_bytes(bytes[offset..offset + 4].try_into().unwrap());
-    let header = [1, 40, 1, 72, 1, 104, 4, 2, 9, 608];
+    let header = [1, 40, 1, 72, 1, 108, 4, 2, 9, 612];
     assert_eq!(std::array::from_fn::<u32, 10, _>(|i| at(4 * i)), header);
     assert_eq!(
         std::array::from_fn::<u32, 8, _>(|i| at(40 + 4 * i)),
         [25, 2, 300, 4, 1, 1, 1, 20]
     );
     assert_eq!(
-        std::array::from_fn::<u32, 8, _>(|i| at(72 + 4 * i)),
-        [0, 3, 0, 1, 0, 1, 16, 0]
+        std::array::from_fn::<u32, 9, _>(|i| at(72 + 4 * i)),
+        [0, 3, 0, 1, 0, 1, 16, 0, 25]
     );
     let front = [2, 5, 1, 0, 1, 1, 0, 1, 0.5f32.to_bits(), 3, 2, 1, 0, 0];
     assert_eq!(
-        std::array::from_fn::<u32, 14, _>(|i| at(104 + 4 * i)),
+        std::array::from_fn::<u32, 14, _>(|i| at(108 + 4 * i)),
         front
     );
-    assert_eq!(at(160), NONE, "slot 0 is empty");
+    assert_eq!(at(164), NONE, "slot 0 is empty");
     assert_eq!(
-        std::array::from_fn::<u32, 6, _>(|i| at(216 + 4 * i)),
+        std::array::from_fn::<u32, 6, _>(|i| at(220 + 4 * i)),
         [0, 1, 7, 0, 2, 1]
     );
-    assert_eq!(bytes[240..248], 1.0f64.to_le_bytes());
-    assert_eq!(bytes[264..272], (-0.0f64).to_le_bytes());
+    assert_eq!(bytes[244..252], 1.0f64.to_le_bytes());
+    assert_eq!(bytes[268..276], (-0.0f64).to_le_bytes());
 }

@@ -147,7 +147,7 @@ fn view_fields() {
         session.views.push(View::from_fields(&fields));
         number(&session)
     };
-    let edges: [(usize, &[u32], &[u32]); 8] = [
+    let edges: [(usize, &[u32], &[u32]); 9] = [
         (0, &[0], &[1, NONE]),
         (1, &[2, 3, 4, 5], &[0, 1, 6, 7]),
         (2, &[0, 2], &[3, NONE]),
@@ -156,6 +156,7 @@ fn view_fields() {
         (5, &[1, 4], &[0, 5, NONE]),
         (6, &[0, 16], &[1, 48, 64]),
         (7, &[0, 1], &[2]),
+        (8, &[3, 4], &[0, 1, 5, 6, 20, NONE]),
     ];
     for (at, lawful, unlawful) in edges {
         for value in lawful {
@@ -188,6 +189,27 @@ fn dimensions_go_in_pairs() {
             };
             let expected = if pair == texture_dimension { 0 } else { 4 };
             assert_eq!(number(&session), expected);
+        }
+    }
+}
+
+#[test]
+fn a_view_has_its_textures_format_or_the_siblings() {
+    for of_texture in (1..=14).chain(20..=25) {
+        for format in 0..=26 {
+            let mut session = Session::new();
+            session.textures.push(Texture {
+                format: of_texture,
+                ..PLAIN_TEXTURE
+            });
+            session.views.push(View {
+                format,
+                ..PLAIN_VIEW
+            });
+            let siblings = [(3, 4), (4, 3), (5, 6), (6, 5)].contains(&(of_texture, format));
+            let fits = format == of_texture || siblings;
+            let expected = if fits { 0 } else { 4 };
+            assert_eq!(number(&session), expected, "{of_texture} as {format}");
         }
     }
 }

@@ -2,6 +2,7 @@
 
 use sessions::layout::{HEADER_FIELDS, HEADER_LEN};
 use sessions::random::{self, Prng};
+use sessions::rows::Session;
 use sessions::{damage, enumerate, reader, text};
 
 #[test]
@@ -20,6 +21,30 @@ fn rows_are_told_where_nothing_unexamined_is_set() {
         let text = text::from_bytes(&session.to_bytes());
         assert!(!text.starts_with("raw"), "{text}");
     }
+}
+
+#[test]
+fn a_views_format_is_its_textures_unless_said() {
+    let formats = |text: &str| {
+        let session = Session::decode(&text::to_bytes(text).unwrap()).unwrap();
+        let formats = session.views.iter().map(|view| view.format);
+        formats.collect::<Vec<u32>>()
+    };
+    let srgb = "texture format=rgba8unorm-srgb";
+    assert_eq!(formats(&format!("{srgb}\nview")), [4]);
+    assert_eq!(formats(&format!("{srgb}\nview format=rgba8unorm")), [3]);
+    assert_eq!(formats(&format!("{srgb}\nview format=0")), [0]);
+    assert_eq!(formats(&format!("view\nagain 2\n{srgb}")), [4, 4, 4]);
+    assert_eq!(formats("texture\nview texture=1"), [0]);
+}
+
+#[test]
+fn a_format_is_told_where_it_is_not_the_textures() {
+    let told = |text: &str| text::from_bytes(&text::to_bytes(text).unwrap());
+    let sibling = "texture format=bgra8unorm\nview format=bgra8unorm-srgb\n";
+    assert!(told(sibling).contains("view format=bgra8unorm-srgb\n"));
+    let own = "texture format=bgra8unorm\nview format=bgra8unorm\n";
+    assert!(told(own).contains("view\n"));
 }
 
 #[test]

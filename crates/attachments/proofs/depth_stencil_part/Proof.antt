@@ -1,5 +1,5 @@
 -- By whether the view is none.
-use mathlib.Core.Path.{sym, _∙_}
+use mathlib.Core.Path.{sym, ap, _∙_}
 use Rattle.attachments.proofs.DepthStencil.{part-absent, part-present}
 use borrow.Author.Needs.{needs}
 use Rattle.attachments.proofs.depth_stencil_part.Statement.{statement}
@@ -10,11 +10,11 @@ returns c = part-absent _ _ _ _ (c .before .before .before .depth-stencil .ensur
 
 returns-2 : tie.Need-returns-2
 returns-2 c =
-    let c4 = c .before .before .before .before in
+    let c3 = c .before .before .before in
+    let c4 = c3 .before in
     let c5 = c4 .before in
     let c6 = c5 .before in
-    let c7 = c6 .before in
-    part-present _ _ _ _ _ _ _ (c7 .depth-stencil .ensures) (sym (c6 .is-none .ensures) ∙ c5 .if1 .left) (simp (c4 .view .ensures) at (c .before .before .before .format-of .ensures)) (c .before .before .depth-ops .ensures) (c .before .stencil-ops .ensures) (c .depth-stencil-of .ensures)
+    part-present _ _ _ _ _ _ _ (c6 .depth-stencil .ensures) (sym (c5 .is-none .ensures) ∙ c4 .if1 .left) (ap (λ v. v .format) (c3 .view .ensures)) (c .before .before .depth-ops .ensures) (c .before .stencil-ops .ensures) (c .depth-stencil-of .ensures)
 
 pub depth-stencil-part-spec : {M : Type 1} → statement M
 depth-stencil-part-spec =
@@ -24,7 +24,6 @@ depth-stencil-part-spec =
     (λ c κs. search needs)
     (λ c κs. search needs)
     returns
-    (λ c κs. search needs)
     (λ c κs. search needs)
     (λ c κs. search needs)
     (λ c κs. search needs)

@@ -13,7 +13,6 @@ returns c =
     let c7 = c6 .before in
     let c8 = c7 .before in
     let c9 = c8 .before in
-    let c10 = c9 .before in
     simp (
       c .then4 .ensures,
       c .before .then3 .ensures,
@@ -23,16 +22,14 @@ returns c =
       c5 .slice-verdict .ensures,
       c6 .unless .ensures,
       c7 .is-color .ensures,
-      c8 .format-of .ensures,
-      c9 .add-view .ensures,
-      c10 .check-multiview .ensures,
+      c8 .add-view .ensures,
+      c9 .check-multiview .ensures,
     )
 
 pub color-view-spec : {M : Type 1} → statement M
 color-view-spec =
     tie.close
     (tie.spec
-    (λ c κs. search needs)
     (λ c κs. search needs)
     (λ c κs. search needs)
     (λ c κs. search needs)

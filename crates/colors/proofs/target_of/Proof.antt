@@ -11,13 +11,11 @@ returns c =
     let c5 = c4 .before in
     let c6 = c5 .before in
     let c8 = c6 .before .before in
-    let c9 = c8 .before in
+    let c9 = c8 .before .before .before in
     let c10 = c9 .before in
     let c11 = c10 .before in
     let c12 = c11 .before in
     let c13 = c12 .before in
-    let c14 = c13 .before in
-    let c15 = c14 .before in
     simp (
       c .then4 .ensures,
       c .before .then3 .ensures,
@@ -27,21 +25,17 @@ returns c =
       c5 .transient .ensures,
       c6 .unless3 .ensures,
       c8 .unless2 .ensures,
-      c9 .format-of2 .ensures,
-      c10 .format-of .ensures,
-      c11 .unless .ensures,
-      c12 .unless-against .ensures,
-      c13 .same-extent .ensures,
-      c14 .samples-of2 .ensures,
-      c15 .samples-of .ensures,
+      c9 .unless .ensures,
+      c10 .unless-against .ensures,
+      c11 .same-extent .ensures,
+      c12 .samples-of2 .ensures,
+      c13 .samples-of .ensures,
     )
 
 pub target-of-spec : {M : Type 1} → statement M
 target-of-spec =
     tie.close
     (tie.spec
-    (λ c κs. search needs)
-    (λ c κs. search needs)
     (λ c κs. search needs)
     (λ c κs. search needs)
     (λ c κs. search needs)

@@ -17,8 +17,7 @@ returns-2 c =
     let c6 = c5 .before in
     let c7 = c6 .before in
     let c8 = c7 .before in
-    let c9 = c8 .before in
-    simp (c .channel-ops .ensures, c .before .stencil .ensures, c .before .before .depth .ensures, c .before .before .before .format-of .ensures, c4 .transient .ensures, c5 .strict .ensures, c6 .view .ensures, c8 .is-none .ensures, c9 .depth-stencil .ensures, simp (c9 .depth-stencil .ensures) at (sym (c8 .is-none .ensures) ∙ c7 .if1 .left))
+    simp (c .channel-ops .ensures, c .before .stencil .ensures, c .before .before .depth .ensures, c .before .before .before .transient .ensures, c4 .strict .ensures, c5 .view .ensures, c7 .is-none .ensures, c8 .depth-stencil .ensures, simp (c8 .depth-stencil .ensures) at (sym (c7 .is-none .ensures) ∙ c6 .if1 .left))
 
 pub depth-stencil-ops-spec : {M : Type 1} → statement M
 depth-stencil-ops-spec =
@@ -28,7 +27,6 @@ depth-stencil-ops-spec =
     (λ c κs. search needs)
     (λ c κs. search needs)
     returns
-    (λ c κs. search needs)
     (λ c κs. search needs)
     (λ c κs. search needs)
     (λ c κs. search needs)

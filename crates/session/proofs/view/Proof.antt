@@ -1,12 +1,20 @@
--- The view rows stand after the session's own textures.
-use mathlib.Core.Path.{_∙_}
+-- The row's shape and its format, after the session's own textures.
+use Rattle.definition.specs.Session.{session}
 use borrow.Author.Needs.{needs}
-use Rattle.session.proofs.Rows.{view-row}
 use Rattle.session.proofs.view.Statement.{statement}
 use Rattle.session.proofs.view.Tie as tie
 
 returns : tie.Need-returns
-returns c = c .view-after .ensures ∙ view-row _ _ _ (c .before .texture-count .ensures)
+unfolding session
+returns c = simp (c .u32-at .ensures, c .before .view-at .ensures .0, c .before .before .view-shape .ensures, c .before .before .before .texture-count .ensures)
 
 pub view-spec : {M : Type 1} → statement M
-view-spec = tie.close (tie.spec (λ c κs. search needs) (λ c κs. search needs) returns)
+view-spec =
+    tie.close
+    (tie.spec
+    (λ c κs. search needs)
+    (λ c κs. search needs)
+    (λ c κs. search needs)
+    (λ c. search needs)
+    (λ c κs. search needs)
+    returns)

@@ -8,7 +8,7 @@ use checks::words::{only, value};
 use sessions::command::{arguments, end};
 
 /// Seed of the committed list.
-const SEED: u64 = 9_001;
+const SEED: u64 = 9_004;
 /// Sessions of the committed list.
 const SESSIONS: usize = 510;
 

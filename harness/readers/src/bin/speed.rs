@@ -61,7 +61,16 @@ fn layers(s: &[u8], at: usize) -> u32 {
     }
 }
 
-/// Document 01's test of a view row.
+/// A format without its sRGB suffix.
+fn without_srgb(format: u32) -> u32 {
+    match format {
+        4 => 3,
+        6 => 5,
+        _ => format,
+    }
+}
+
+/// Document 01's test of a view row, with its format.
 fn view_right(s: &[u8], textures: u32, at: usize) -> bool {
     if field(s, at, 0) >= textures {
         return false;
@@ -80,6 +89,7 @@ fn view_right(s: &[u8], textures: u32, at: usize) -> bool {
         && within(field(s, at, 4), field(s, at, 5), layers(s, texture))
         && field(s, at, 6) & !field(s, texture, 7) == 0
         && field(s, at, 7) <= 1
+        && without_srgb(field(s, at, 8)) == without_srgb(field(s, texture, 0))
 }
 
 /// The session's refusal, 1 to 4, or 0: a plain Rust reader that keeps nothing.

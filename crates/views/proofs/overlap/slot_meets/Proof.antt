@@ -1,8 +1,8 @@
--- A range meets what a slot takes where it meets the resolve target or the colour view.
+-- A range meets what a slot takes where it meets the resolve target or the colour view, and a view takes what its shape takes.
 use mathlib.Core.Path.{sym, ap, _∙_}
 use Rattle.definition.specs.Session.{isNone}
 use Rattle.definition.specs.Surfaces.{layersOf}
-use Rattle.session.proofs.Rows.{view-row}
+use Rattle.session.proofs.Rows.{shape-takes}
 use Rattle.laws.proofs.Overlap.{meets-nil, meets-append}
 use borrow.Author.Needs.{needs}
 use Rattle.views.proofs.overlap.slot_meets.Statement.{statement}
@@ -20,8 +20,7 @@ returns-2 c x e =
     let c6 = c5 .before in
     simp (
       c .before .before .layers-meet .ensures,
-      c .before .before .before .range-taken .ensures,
-      c4 .view-after .ensures ∙ view-row _ _ _ (c6 .before .before .pre),
+      c .before .before .before .range-taken .ensures ∙ shape-takes _ _ _ _ _ (c4 .view-shape .ensures) (c6 .before .before .pre),
       e,
       ap (λ q. isNone (q .view)) (sym e) ∙ sym (c6 .is-none .ensures) ∙ c5 .if1 .left,
       ap (λ q. isNone (q .resolve)) (sym e) ∙ sym (c .before .is-none2 .ensures) ∙ c .if2 .taken,
@@ -38,11 +37,9 @@ returns-3 c x e =
     let c11 = c9 .before .before in
     simp (
       c .layers-meet2 .ensures,
-      c .before .range-taken2 .ensures,
-      c .before .before .view-after2 .ensures ∙ view-row _ _ _ (c11 .pre),
+      c .before .range-taken2 .ensures ∙ shape-takes _ _ _ _ _ (c .before .before .view-shape2 .ensures) (c11 .pre),
       c5 .layers-meet .ensures,
-      c6 .range-taken .ensures,
-      c7 .view-after .ensures ∙ view-row _ _ _ (c11 .pre),
+      c6 .range-taken .ensures ∙ shape-takes _ _ _ _ _ (c7 .view-shape .ensures) (c11 .pre),
       e,
       ap (λ q. isNone (q .view)) (sym e) ∙ sym (c9 .is-none .ensures) ∙ c8 .if1 .left,
       ap (λ q. isNone (q .resolve)) (sym e) ∙ sym (c4 .is-none2 .ensures) ∙ c .before .before .before .if2 .left,

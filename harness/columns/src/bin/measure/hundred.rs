@@ -105,6 +105,7 @@ pub fn nearly_equal() -> Session {
     textures.extend((1..SHOWN).map(|_| texture(FORMATS[0], 1)));
     let view = |texture: u32| View {
         texture,
+        format: textures[texture as usize].format,
         ..PLAIN_VIEW
     };
     Session {

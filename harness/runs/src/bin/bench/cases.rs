@@ -360,6 +360,7 @@ fn depth_and_colour() -> Session {
     session.textures.push(depth_stencil);
     session.views.push(View {
         texture: 1,
+        format: depth_stencil.format,
         ..PLAIN_VIEW
     });
     session.passes[0].depth_stencil = 1;
