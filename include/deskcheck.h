@@ -37,10 +37,10 @@ extern "C" {
 /*
  * The session file
  *
- * Header, 40 bytes: texture count (0 to 64), texture offset (40), view count (0 to 256), view offset,
+ * Header, 44 bytes: texture count (0 to 64), texture offset (44), view count (0 to 256), view offset,
  * pass count (0 to 100), pass offset, maximum colours (1 to 8), maximum multiview views (0 to 32),
- * flags (1 strict, 2 MULTIVIEW, 4 SELECTIVE_MULTIVIEW, 8 READ_ONLY_DEPTH_STENCIL), total length.
- * Textures, views and passes follow without a gap.
+ * flags (1 strict, 2 MULTIVIEW, 4 SELECTIVE_MULTIVIEW, 8 READ_ONLY_DEPTH_STENCIL), limit of colour
+ * bytes per sample (1 to 128), total length. Textures, views and passes follow without a gap.
  *
  * Texture, 32 bytes: format, dimension (1 to 3), width, height (1 to 16384), depth or layers (1 to 32),
  * mips (1 to 15), samples (1, 2, 4, 8, 16), usage (4 texture binding, 16 render attachment,
@@ -65,7 +65,7 @@ extern "C" {
  * field is 1, and with the last pass, also where the pass is refused. A field above 1 is refused as 5
  * and ends nothing, unless its pass is the last.
  */
-#define DESKCHECK_HEADER_LEN 40
+#define DESKCHECK_HEADER_LEN 44
 #define DESKCHECK_TEXTURE_LEN 32
 #define DESKCHECK_VIEW_LEN 36
 #define DESKCHECK_SLOTS 8
@@ -75,9 +75,11 @@ extern "C" {
 /* Where the header has the pass count, the pass offset and the total length. */
 #define DESKCHECK_PASS_COUNT_AT 16
 #define DESKCHECK_PASS_OFFSET_AT 20
-#define DESKCHECK_TOTAL_AT 36
+#define DESKCHECK_TOTAL_AT 40
 /* Where a pass row has its ends-buffer field. */
 #define DESKCHECK_PASS_ENDS_AT 8
+/* The greatest limit of colour bytes per sample: no pass is over it. */
+#define DESKCHECK_MOST_COLOR_BYTES 128
 /* Most rows of a session, and its greatest length. */
 #define DESKCHECK_MOST_TEXTURES 64
 #define DESKCHECK_MOST_VIEWS 256
@@ -91,7 +93,7 @@ extern "C" {
  * Numbers. 0 is accepted; 1 to 4 and 6 refuse the session or what is lent, the others one pass.
  * docs/REFUSALS.md explains each, with an example file and what to change.
  *
- *  1  under 40 bytes, or total length wrong         30  2 layers or more, not D2Array
+ *  1  under 44 bytes, or total length wrong         30  2 layers or more, not D2Array
  *  2  another header field, or the passes' end      31  layers differ from the first view's; place 17:
  *  3  a texture, or over 4096 surfaces in all           mask's top bit at or past the layers
  *  4  a view                                        32  several layers, no MULTIVIEW
@@ -113,10 +115,11 @@ extern "C" {
  * 24  no store                                      48  resolve target not D2 or D2Array
  * 25, 26  depth (stencil) operation without that    49  the discard list would need a 65th entry
  *     aspect                                        50  the action list would need a 513th
+ *                                                   51  colour bytes per sample over the limit
  *
  * Places: 0 to 7 a colour slot, 8 to 15 its resolve target, 16 depth-stencil, 17 none. 35 and 36 also
  * give the place of the depth-stencil or colour view accepted last as the earlier place; it is 17
- * otherwise.
+ * otherwise. 51 is about all colours of a pass, and has the place of its first filled slot.
  */
 #define DESKCHECK_RESOLVE_PLACE 8
 #define DESKCHECK_DEPTH_STENCIL_PLACE 16

@@ -27,9 +27,9 @@ suite() { # COMMAND..
     count "$logs/suite" "${PIPESTATUS[0]}"
 }
 
-# The edits of the definition need nothing that rt ci makes, so they run beside it, one at a time, and are shown after it. What they
-# say goes to target/ only then, since rt ci begins by removing it.
-EDIT_JOBS=1 EDIT_LOGS=$logs/edits bash tools/definition-edits.sh > "$logs/definition-edits" 2>&1 &
+# The edits of the definition need nothing that rt ci makes, so they run beside it, one at a time, in what rt ci leaves of the processors
+# (nice), and are shown after it. What they say goes to target/ only then, since rt ci begins by removing it.
+EDIT_JOBS=1 EDIT_LOGS=$logs/edits nice -n 19 bash tools/definition-edits.sh > "$logs/definition-edits" 2>&1 &
 beside=$!
 suite rt ci
 wait "$beside"

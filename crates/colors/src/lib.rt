@@ -1,4 +1,4 @@
-// Colour slots and resolve targets: numbers 37 to 45 and 48, and the views of a pass in order, depth-stencil first.
+// Colour slots and resolve targets: numbers 37 to 45, 48 and 51, and the views of a pass in order, depth-stencil first.
 // Every public function is total, and its contract is an equation with the definition.
 use definition::Progress;
 use definition::Seen;
@@ -24,8 +24,12 @@ use session::derived::samples_of;
 use session::derived::transient;
 use session::derived::width_of;
 use session::formats::is_color;
+use session::formats::with_color;
+use session::header::color_bytes;
 use session::slot;
+use session::slot_view;
 use session::view;
+use session::view_format;
 use views::add_view;
 use views::check_multiview;
 use views::depth_stencil_view;
@@ -36,7 +40,8 @@ use views::renderable;
 use views::see_view;
 ghost use mathlib.Core.Path.{_≡_};
 ghost use mathlib.Core.List.{_++_};
-ghost use Prim.Native.Nat.{_<_, _≤_, min};
+ghost use lib.Dec.{leb};
+ghost use Prim.Native.Nat.{_+_, _<_, _≤_, min};
 ghost use Rattle.definition.specs.Sizes.{maxSlots};
 ghost use Rattle.definition.specs.Session.{session};
 ghost use Rattle.definition.specs.Views as Vw;
@@ -53,16 +58,20 @@ fn slice_verdict(s: &[u8], c: Slot, v: View, place: u32) -> Verdict
     either(is_d3(v), then(given, inside), absent)
 }
 
-// The colour view v of slot k: 30 to 41.
-fn color_view(s: &[u8], pass: u32, seen: Seen, c: Slot, v: View, k: u32) -> Verdict
-    ensures { λ r. ⌜ r ≡ Vw.colorView (session (now (s .entry))) seen (takenIn (now (s .entry)) pass k) c v k ⌝ }
+// The colour view v of slot k, of a pass whose colours fit into a sample or not: 30 to 40, 51, 41.
+fn color_view(s: &[u8], pass: u32, seen: Seen, fit: bool, c: Slot, v: View, k: u32) -> Verdict
+    ensures { λ r. ⌜ r ≡ Vw.colorView (session (now (s .entry))) seen fit (takenIn (now (s .entry)) pass k) c v k ⌝ }
 {
     let layers = check_multiview(s, seen, v, k);
-    let fit = add_view(s, seen, v, k);
+    let extent = add_view(s, seen, v, k);
     let format = unless(is_color(v.format), 37, k);
     let slice = slice_verdict(s, c, v, k);
+    let bytes = unless(fit, 51, k);
     let free = check_attachment_overlap(s, pass, k, v, c.slice, k);
-    then(layers, then(fit, then(format, then(slice, free))))
+    then(
+        layers,
+        then(extent, then(format, then(slice, then(bytes, free)))),
+    )
 }
 
 // Whether two views have the same width and height.
@@ -167,11 +176,11 @@ fn resolve_step(s: &[u8], pass: u32, seen: Seen, c: Slot, v: View, k: u32) -> Pr
 }
 
 // The colour view v of slot k, then its resolve target.
-fn color_step(s: &[u8], pass: u32, seen: Seen, c: Slot, v: View, k: u32) -> Progress
+fn color_step(s: &[u8], pass: u32, seen: Seen, fit: bool, c: Slot, v: View, k: u32) -> Progress
     requires { ⌜ k < maxSlots ⌝ }
-    ensures { λ r. ⌜ r ≡ Ck.colorStep (session (now (s .entry))) seen (takenIn (now (s .entry)) pass k) c v k ⌝ }
+    ensures { λ r. ⌜ r ≡ Ck.colorStep (session (now (s .entry))) seen fit (takenIn (now (s .entry)) pass k) c v k ⌝ }
 {
-    let color = color_view(s, pass, seen, c, v, k);
+    let color = color_view(s, pass, seen, fit, c, v, k);
     if is_fine(color) {
         return resolve_step(s, pass, see_view(s, seen, v, k), c, v, k);
     }
@@ -182,9 +191,9 @@ fn color_step(s: &[u8], pass: u32, seen: Seen, c: Slot, v: View, k: u32) -> Prog
 }
 
 // Slot k, where it is not empty.
-fn slot_step(s: &[u8], pass: u32, k: u32, seen: Seen) -> Progress
+fn slot_step(s: &[u8], pass: u32, fit: bool, k: u32, seen: Seen) -> Progress
     requires { ⌜ k < maxSlots ⌝ }
-    ensures { λ r. ⌜ r ≡ Ck.slotStep (session (now (s .entry))) (session (now (s .entry)) .pass pass) k seen ⌝ }
+    ensures { λ r. ⌜ r ≡ Ck.slotStep (session (now (s .entry))) (session (now (s .entry)) .pass pass) fit k seen ⌝ }
 {
     let c = slot(s, pass, k);
     if is_none(c.view) {
@@ -193,18 +202,18 @@ fn slot_step(s: &[u8], pass: u32, k: u32, seen: Seen) -> Progress
             seen: seen,
         };
     }
-    color_step(s, pass, seen, c, view(s, c.view), k)
+    color_step(s, pass, seen, fit, c, view(s, c.view), k)
 }
 
 // Slot k after a: nothing more once the pass is refused.
-fn next_slot(s: &[u8], pass: u32, k: u32, a: Progress) -> Progress
+fn next_slot(s: &[u8], pass: u32, fit: bool, k: u32, a: Progress) -> Progress
     requires { ⌜ k < maxSlots ⌝ }
-    ensures { λ r. ⌜ r ≡ Ck.nextSlot (session (now (s .entry))) (session (now (s .entry)) .pass pass) k a ⌝ }
+    ensures { λ r. ⌜ r ≡ Ck.nextSlot (session (now (s .entry))) (session (now (s .entry)) .pass pass) fit k a ⌝ }
 {
     let judged = a.verdict;
     if is_fine(judged) {
         let seen = a.seen;
-        return slot_step(s, pass, k, seen);
+        return slot_step(s, pass, fit, k, seen);
     }
     a
 }
@@ -216,15 +225,51 @@ fn slots_of(n: u32) -> u32
     if n < MAX_SLOTS { n } else { MAX_SLOTS }
 }
 
+// The bytes of a sample with slot k more: at most 19.
+fn with_slot(s: &[u8], pass: u32, k: u32, bytes: u32) -> u64
+    ensures { λ r. ⌜
+        (r ≡ Ck.withSlot (session (now (s .entry))) (session (now (s .entry)) .pass pass .slot k) bytes)
+        × (r ≤ bytes + 19) ⌝ }
+{
+    let v = slot_view(s, pass, k);
+    if is_none(v) {
+        return bytes as u64;
+    }
+    with_color(bytes, view_format(s, v))
+}
+
+// The colour bytes of a sample, of the first n slots, and of no more than a pass may have.
+fn sample_bytes(s: &[u8], pass: u32, n: u32) -> u32
+    ensures { λ r. ⌜ r ≡ Ck.sampleBytes (session (now (s .entry))) (session (now (s .entry)) .pass pass) (min n maxSlots) ⌝ }
+{
+    let slots = slots_of(n);
+    let mut bytes = 0u32;
+    let mut k = 0u32;
+    while k < slots {
+        bytes = with_slot(s, pass, k, bytes) as u32;
+        k += 1;
+    }
+    bytes
+}
+
+// Whether they are within the session's limit.
+pub fn bytes_fit(s: &[u8], pass: u32, n: u32) -> bool
+    ensures { λ r. ⌜
+        (let bytes = Ck.sampleBytes (session (now (s .entry))) (session (now (s .entry)) .pass pass) (min n maxSlots) in
+        r ≡ leb bytes (session (now (s .entry)) .colorBytes)) ⌝ }
+{
+    sample_bytes(s, pass, n) <= color_bytes(s)
+}
+
 // The first n slots, after a. No more are looked at than a pass may have: one of more is refused as 5.
-pub fn slot_steps(s: &[u8], pass: u32, a: Progress, n: u32) -> Progress
-    ensures { λ r. ⌜ r ≡ Ck.slotSteps (session (now (s .entry))) (session (now (s .entry)) .pass pass) a (min n maxSlots) ⌝ }
+pub fn slot_steps(s: &[u8], pass: u32, fit: bool, a: Progress, n: u32) -> Progress
+    ensures { λ r. ⌜ r ≡ Ck.slotSteps (session (now (s .entry))) (session (now (s .entry)) .pass pass) fit a (min n maxSlots) ⌝ }
 {
     let slots = slots_of(n);
     let mut b = a;
     let mut k = 0u32;
     while k < slots {
-        b = next_slot(s, pass, k, b);
+        b = next_slot(s, pass, fit, k, b);
         k += 1;
     }
     b

@@ -8,7 +8,7 @@ use borrow.Author.Tests.{ltb-true}
 use lib.Dec.{ltb}
 use lib.ListN.{length, getD, take}
 use lib.Seq.{getD-take}
-use Rattle.definition.specs.Sizes.{textureBytes, viewBytes}
+use Rattle.definition.specs.Sizes.{totalLengthAt, textureBytes, viewBytes}
 use Rattle.definition.specs.Bytes.{u32At}
 use Rattle.definition.specs.Session.{session, textureCount, viewCount, passCount, textureAt, viewAt, passStart, surfacesBefore}
 use Rattle.definition.specs.Readable.{lengthRight, headerRight, texturesRead, texturesRight, viewRight, viewsRead, viewsRight, sessionVerdict, sessionRefusal}
@@ -74,7 +74,7 @@ module _ (s t : List ℕ) (same : take (passStart s) t ≡ take (passStart s) s)
 
   length-test : length t ≡ length s → lengthRight t ≡ lengthRight s
   unfolding lengthRight
-  length-test e = simp (e, number-same 36 (omega arith))
+  length-test e = simp (e, number-same totalLengthAt (omega arith))
 
   header-test : headerRight t ≡ headerRight s
   unfolding headerRight
@@ -90,6 +90,7 @@ module _ (s t : List ℕ) (same : take (passStart s) t ≡ take (passStart s) s)
         number-same 28 (omega arith),
         number-same 32 (omega arith),
         number-same 36 (omega arith),
+        number-same totalLengthAt (omega arith),
       )
 
   textures-read : (n : ℕ) → n ≤ textureCount s → texturesRead (session t) n ≡ texturesRead (session s) n

@@ -1,9 +1,9 @@
--- Whether a pass is accepted, apart from the lists' lengths: numbers 5 and 10 to 48, in document 01's order.
+-- Whether a pass is accepted, apart from the lists' lengths: numbers 5, 10 to 48 and 51, in document 01's order.
 use Prim.Native.Nat.{ℕ, zero, suc, _+_, _^_}
 use mathlib.Core.List.{List, [], _++_}
 use mathlib.Core.Bool.{Bool, not, _&&_, _||_, cond}
 use lib.Dec.{leb, ltb, eqb}
-use Rattle.definition.specs.Formats.{isDepthStencil, hasDepth, hasStencil}
+use Rattle.definition.specs.Formats.{isDepthStencil, hasDepth, hasStencil, withColor}
 use Rattle.definition.specs.Session.{Pass, Session, isNone, strict, selectiveMultiview, formatOf, transient}
 use Rattle.definition.specs.Readable.{passReads}
 use Rattle.definition.specs.Verdict.{resolveAt, atDepthStencil, nowhere, fine, isFine, refusedAt, _then_, unless}
@@ -56,7 +56,7 @@ opsVerdict S p =
     then colorOps S p (p .colors)
     then depthStencilOps S p
 
--- ── views: 30 to 48 (RenderPassInfo::start)
+-- ── views: 30 to 48 and 51 (RenderPassInfo::start)
 
 abbrev pub progress : Verdict → Seen → Progress
 progress v seen = record { verdict = v; seen = seen }
@@ -72,6 +72,17 @@ unfoldable pub takenBefore : Session → Pass → ℕ → List Surface
 takenBefore S p zero = []
 takenBefore S p (suc k) = slotTakes S (p .slot k) ++ takenBefore S p k
 
+-- W3C "calculating color attachment bytes per sample": with a slot more; of the first n slots; and whether those of the pass are within the limit.
+abbrev pub withSlot : Session → Slot → ℕ → ℕ
+withSlot S c bytes = cond (isNone (c .view)) bytes (withColor bytes (formatOf (S .view (c .view))))
+
+unfoldable pub sampleBytes : Session → Pass → ℕ → ℕ
+sampleBytes S p zero = 0
+sampleBytes S p (suc n) = withSlot S (p .slot n) (sampleBytes S p n)
+
+abbrev pub bytesFit : Session → Pass → Bool
+bytesFit S p = leb (sampleBytes S p (p .colors)) (S .colorBytes)
+
 unfoldable pub depthStencilStep : Session → Pass → Progress
 depthStencilStep S p =
     cond (isNone (p .depthStencil)) (progress fine noneSeen)
@@ -84,24 +95,24 @@ resolveStep S seen taken c v k =
     (progress (resolveView S seen (takes v (c .slice) ++ taken) v (S .view (c .resolve)) (resolveAt k)) seen)
 
 -- The colour view v of slot k, then its resolve target.
-unfoldable pub colorStep : Session → Seen → List Surface → Slot → View → ℕ → Progress
-colorStep S seen taken c v k =
-    cond (isFine (colorView S seen taken c v k)) (resolveStep S (seeView S seen v k) taken c v k)
-    (progress (colorView S seen taken c v k) seen)
+unfoldable pub colorStep : Session → Seen → Bool → List Surface → Slot → View → ℕ → Progress
+colorStep S seen fit taken c v k =
+    cond (isFine (colorView S seen fit taken c v k)) (resolveStep S (seeView S seen v k) taken c v k)
+    (progress (colorView S seen fit taken c v k) seen)
 
-unfoldable pub slotStep : Session → Pass → ℕ → Seen → Progress
-slotStep S p k seen =
+unfoldable pub slotStep : Session → Pass → Bool → ℕ → Seen → Progress
+slotStep S p fit k seen =
     cond (isNone (p .slot k .view)) (progress fine seen)
-    (colorStep S seen (takenBefore S p k) (p .slot k) (S .view (p .slot k .view)) k)
+    (colorStep S seen fit (takenBefore S p k) (p .slot k) (S .view (p .slot k .view)) k)
 
 -- Slot k after a: nothing more once the pass is refused.
-unfoldable pub nextSlot : Session → Pass → ℕ → Progress → Progress
-nextSlot S p k a = cond (isFine (a .verdict)) (slotStep S p k (a .seen)) a
+unfoldable pub nextSlot : Session → Pass → Bool → ℕ → Progress → Progress
+nextSlot S p fit k a = cond (isFine (a .verdict)) (slotStep S p fit k (a .seen)) a
 
 -- The first n slots, after a.
-unfoldable pub slotSteps : Session → Pass → Progress → ℕ → Progress
-slotSteps S p a zero = a
-slotSteps S p a (suc n) = nextSlot S p n (slotSteps S p a n)
+unfoldable pub slotSteps : Session → Pass → Bool → Progress → ℕ → Progress
+slotSteps S p fit a zero = a
+slotSteps S p fit a (suc n) = nextSlot S p fit n (slotSteps S p fit a n)
 
 -- 46; then 31 and 47 of the mask: its top bit is below the layers where the mask is below 2 ^ layers, and 2 ^ layers - 1 is full.
 unfoldable pub maskVerdict : Session → ℕ → ℕ → Verdict
@@ -114,9 +125,9 @@ unfoldable pub maskStep : Session → Pass → Progress → Progress
 maskStep S p a = progress (a .verdict then maskVerdict S (p .mask) (a .seen .layers)) (a .seen)
 
 unfoldable pub viewSteps : Session → Pass → Progress
-viewSteps S p = maskStep S p (slotSteps S p (depthStencilStep S p) (p .colors))
+viewSteps S p = maskStep S p (slotSteps S p (bytesFit S p) (depthStencilStep S p) (p .colors))
 
--- 5 and 10 to 48, and the extent and samples.
+-- 5, 10 to 48 and 51, and the extent and samples.
 unfoldable pub check : Session → Pass → Progress
 check S p =
     cond (passReads S p)

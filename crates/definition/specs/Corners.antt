@@ -123,6 +123,7 @@ desk flags = record {
   maxColors = 8;
   maxMultiview = 4;
   flags = flags;
+  colorBytes = 128;
   texture = λ k. getD textures k (texture 0 0 0 0 0 0);
   view = λ k. getD views k (view 0 0 0 0);
   pass = λ k. colors [];

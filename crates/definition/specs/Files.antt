@@ -4,7 +4,7 @@ use mathlib.Core.List.{List, [], _∷_, _++_, map}
 use mathlib.Core.Bool.{cond}
 use lib.Dec.{eqb}
 use lib.ListN.{length, getD, replicate}
-use Rattle.definition.specs.Sizes.{headerBytes, textureBytes, viewBytes, passBytes, maxSlots, noView}
+use Rattle.definition.specs.Sizes.{headerBytes, textureBytes, viewBytes, passBytes, maxSlots, maxColorBytes, noView}
 
 -- Numbers as little-endian u32.
 abbrev pub words : List ℕ → List ℕ
@@ -68,6 +68,10 @@ fileOf settings textures views passes =
     words ((length textures ∷ headerBytes ∷ length views ∷ viewStart ∷ length passes ∷ passStart ∷ []) ++ settings
     ++ ((passStart + passBytes * length passes) ∷ []) ++ concat textures ++ concat (map (viewRow textures) views) ++ concat passes)
 
--- Of maximum colours, maximum multiview views and flags.
+-- Of maximum colours, maximum multiview views, flags, and a limit of colour bytes per sample.
+abbrev pub limitedFile : (maxColors maxMultiview flags colorBytes : ℕ) → List (List ℕ) → List (List ℕ) → List (List ℕ) → List ℕ
+limitedFile maxColors maxMultiview flags colorBytes textures views passes = fileOf (maxColors ∷ maxMultiview ∷ flags ∷ colorBytes ∷ []) textures views passes
+
+-- The same with the largest limit, which no pass is over.
 abbrev pub file : (maxColors maxMultiview flags : ℕ) → List (List ℕ) → List (List ℕ) → List (List ℕ) → List ℕ
-file maxColors maxMultiview flags textures views passes = fileOf (maxColors ∷ maxMultiview ∷ flags ∷ []) textures views passes
+file maxColors maxMultiview flags = limitedFile maxColors maxMultiview flags maxColorBytes

@@ -4,11 +4,11 @@ use mathlib.Core.List.{List}
 use mathlib.Core.Bool.{Bool, true, false, not, _&&_, _||_, cond}
 use lib.ListN.{length}
 use lib.Dec.{leb, ltb, eqb}
-use Rattle.definition.specs.Sizes.{headerBytes, maxTextures, maxViews, maxPasses, maxSlots, maxMultiviews, maxFlags, maxSize, maxLayers, maxMips, maxUsage, maxSurfaces}
+use Rattle.definition.specs.Sizes.{headerBytes, maxTextures, maxViews, maxPasses, maxSlots, maxMultiviews, maxFlags, maxColorBytes, maxSize, maxLayers, maxMips, maxUsage, maxSurfaces}
 use Rattle.definition.specs.Bytes.{bit}
 use Rattle.definition.specs.Formats.{isColor, isFormat, removeSrgbSuffix}
 use Rattle.definition.specs.Verdict.{nowhere, _then_, unless}
-use Rattle.definition.specs.Session.{Pass, Session, session, isNone, arrayLayers, surfaceCount, formatOf, textureCount, textureOffset, viewCount, viewOffset, passCount, passOffset, maxColors, maxMultiview, flags, totalLength, viewStart, passStart, passEnd}
+use Rattle.definition.specs.Session.{Pass, Session, session, isNone, arrayLayers, surfaceCount, formatOf, textureCount, textureOffset, viewCount, viewOffset, passCount, passOffset, maxColors, maxMultiview, flags, colorBytes, totalLength, viewStart, passStart, passEnd}
 use Rattle.definition.specs.declared.Verdict.{Verdict}
 use Rattle.definition.specs.declared.Texture.{Texture}
 use Rattle.definition.specs.declared.View.{View}
@@ -28,7 +28,7 @@ headerRight s =
     leb (textureCount s) maxTextures && eqb (textureOffset s) headerBytes
     && leb (viewCount s) maxViews && eqb (viewOffset s) (viewStart s)
     && leb (passCount s) maxPasses && eqb (passOffset s) (passStart s)
-    && between 1 maxSlots (maxColors s) && leb (maxMultiview s) maxMultiviews && leb (flags s) maxFlags
+    && between 1 maxSlots (maxColors s) && leb (maxMultiview s) maxMultiviews && leb (flags s) maxFlags && between 1 maxColorBytes (colorBytes s)
     && eqb (passEnd s) (totalLength s)
 
 unfoldable pub samplesRight : ℕ → Bool

@@ -31,6 +31,7 @@ pub record Session : Type 0 where
   pub maxColors : ℕ
   pub maxMultiview : ℕ
   pub flags : ℕ
+  pub colorBytes : ℕ
   pub texture : ℕ → Texture
   pub view : ℕ → View
   pub pass : ℕ → Pass
@@ -63,6 +64,10 @@ maxMultiview s = u32At s 28
 
 abbrev pub flags : List ℕ → ℕ
 flags s = u32At s 32
+
+-- The limit of colour bytes per sample.
+abbrev pub colorBytes : List ℕ → ℕ
+colorBytes s = u32At s 36
 
 abbrev pub totalLength : List ℕ → ℕ
 totalLength s = u32At s totalLengthAt
@@ -146,6 +151,7 @@ session s = record {
   maxColors = maxColors s;
   maxMultiview = maxMultiview s;
   flags = flags s;
+  colorBytes = colorBytes s;
   texture = λ k. textureAt s (headerBytes + textureBytes * k);
   view = λ k. viewAt s (viewStart s + viewBytes * k);
   pass = λ k. passAt s (passStart s + passBytes * k);

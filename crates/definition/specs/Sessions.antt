@@ -5,6 +5,7 @@ use mathlib.Core.List.{List, [], _∷_, _++_, map}
 use mathlib.Core.Bool.{Bool, true, false}
 use lib.ListN.{length, replicate}
 use Rattle.definition.specs.Sizes.{noView}
+use Rattle.definition.specs.Formats.{withColor}
 use Rattle.definition.specs.Surfaces.{surfaceAt, rangeAt}
 use Rattle.definition.specs.Session.{session}
 use Rattle.definition.specs.Verdict.{refusedAt}
@@ -14,7 +15,7 @@ use Rattle.definition.specs.declared.Range.{Range}
 use Rattle.definition.specs.declared.MemoryInitKind.the-variants.{NeedsInitializedMemory}
 use Rattle.definition.specs.Program.{deskcheck}
 use Rattle.definition.specs.Computing.{computing}
-use Rattle.definition.specs.Files.{texture, view, shownAs, channel, absent, sliceSlot, slot, emptySlot, passOf, colors, depthStencil, file}
+use Rattle.definition.specs.Files.{texture, view, shownAs, channel, absent, sliceSlot, slot, emptySlot, passOf, colors, depthStencil, limitedFile, file}
 
 -- An accepted pass of size n × n: clears returned, discards listed. A refused one: number, place, earlier place, discards as found.
 abbrev accepted : (pass n samples clears discards : ℕ) → List ℕ
@@ -23,11 +24,11 @@ accepted pass n samples clears discards = pass ∷ 0 ∷ 17 ∷ 17 ∷ n ∷ n �
 abbrev refused : (pass number place earlier discards : ℕ) → List ℕ
 refused pass number place earlier discards = pass ∷ number ∷ place ∷ earlier ∷ 0 ∷ 0 ∷ 0 ∷ 0 ∷ discards ∷ []
 
--- The small example, of 1116 bytes: Clear with Discard, then Load with Store, in one buffer.
+-- The small example, of 1120 bytes: Clear with Discard, then Load with Store, in one buffer.
 abbrev pub example : List ℕ
 example = file 8 0 0 (texture 3 2 4 1 1 1 16 ∷ []) (view 0 2 1 1 16 0 ∷ []) (colors (slot 0 1 1 ∷ []) ∷ colors (slot 0 0 0 ∷ []) ∷ [])
 
-example-length : length example ≡ 1116
+example-length : length example ≡ 1120
 example-length = refl
 
 printed : deskcheck example ≡ ((0 ∷ 0 ∷ 17 ∷ 17 ∷ 4 ∷ 4 ∷ 1 ∷ 0 ∷ 1 ∷ []) ∷ (1 ∷ 0 ∷ 17 ∷ 17 ∷ 4 ∷ 4 ∷ 1 ∷ 1 ∷ 0 ∷ []) ∷ [])
@@ -51,15 +52,17 @@ plain = texture 3 2 4 1 1 1 16
 abbrev whole : ℕ → List ℕ
 whole t = view t 2 1 1 16 0
 
--- 1: an empty file. 2: 65 textures. 3: three samples. 4: two layers of one. And a session without passes prints nothing.
+-- 1: an empty file. 2: 65 textures; a limit of 0 and of 129 bytes. 3: three samples. 4: two layers of one. And a session without passes prints nothing.
 refused-sessions : all (
     []
     ∷ file 8 0 0 (replicate 65 plain) [] []
+    ∷ limitedFile 8 0 0 0 [] [] []
+    ∷ limitedFile 8 0 0 129 [] [] []
     ∷ file 8 0 0 (texture 3 2 4 1 1 3 16 ∷ []) [] []
     ∷ file 8 0 0 (plain ∷ []) (view 0 3 1 2 16 0 ∷ []) []
     ∷ file 8 0 0 (plain ∷ []) (whole 0 ∷ []) []
     ∷ [])
-    ≡ (((1 ∷ []) ∷ []) ∷ ((2 ∷ []) ∷ []) ∷ ((3 ∷ []) ∷ []) ∷ ((4 ∷ []) ∷ []) ∷ [] ∷ [])
+    ≡ (((1 ∷ []) ∷ []) ∷ ((2 ∷ []) ∷ []) ∷ ((2 ∷ []) ∷ []) ∷ ((2 ∷ []) ∷ []) ∷ ((3 ∷ []) ∷ []) ∷ ((4 ∷ []) ∷ []) ∷ [] ∷ [])
 unfolding computing
 refused-sessions = refl
 
@@ -206,6 +209,45 @@ sibling-loaded : deskcheck (file 8 0 1 (plain ∷ []) (whole 0 ∷ shownAs 4 (wh
     ≡ (accepted 0 4 1 0 1 ∷ accepted 1 4 1 1 0 ∷ [])
 unfolding computing
 sibling-loaded = refl
+
+-- W3C's whole table, after no byte and after one: formats 1 to 14, the depth and stencil formats, and 0. After one byte the alignment shows.
+abbrev formats : List ℕ
+formats = 1 ∷ 2 ∷ 3 ∷ 4 ∷ 5 ∷ 6 ∷ 7 ∷ 8 ∷ 9 ∷ 10 ∷ 11 ∷ 12 ∷ 13 ∷ 14 ∷ 20 ∷ 21 ∷ 22 ∷ 23 ∷ 24 ∷ 25 ∷ 0 ∷ []
+
+sums : (map (withColor 0) formats ∷ map (withColor 1) formats ∷ [])
+    ≡ ((1 ∷ 2 ∷ 8 ∷ 8 ∷ 8 ∷ 8 ∷ 2 ∷ 4 ∷ 8 ∷ 4 ∷ 8 ∷ 16 ∷ 8 ∷ 8 ∷ 0 ∷ 0 ∷ 0 ∷ 0 ∷ 0 ∷ 0 ∷ 0 ∷ [])
+    ∷ (2 ∷ 3 ∷ 9 ∷ 9 ∷ 9 ∷ 9 ∷ 4 ∷ 6 ∷ 10 ∷ 8 ∷ 12 ∷ 20 ∷ 12 ∷ 12 ∷ 1 ∷ 1 ∷ 1 ∷ 1 ∷ 1 ∷ 1 ∷ 1 ∷ []) ∷ [])
+unfolding computing
+sums = refl
+
+-- Formats 1 then 12, after an empty slot, are 20 bytes; 12 then 1 are 17; 1, 22 and 2 are 3. At the limit they are accepted, or a 37 at the depth format; over
+-- it they are a 51 at the first filled slot.
+abbrev bytesFile : ℕ → List (List ℕ) → List ℕ
+bytesFile limit =
+    limitedFile 8 0 1 limit (texture 1 2 4 1 1 1 16 ∷ texture 12 2 4 1 1 1 16 ∷ texture 22 2 4 1 1 1 16 ∷ texture 2 2 4 1 1 1 16 ∷ [])
+    (whole 0 ∷ whole 1 ∷ whole 2 ∷ whole 3 ∷ [])
+
+abbrev ascending : List (List ℕ)
+ascending = colors (emptySlot ∷ slot 0 1 0 ∷ slot 1 1 0 ∷ []) ∷ []
+
+abbrev descending : List (List ℕ)
+descending = colors (slot 1 1 0 ∷ slot 0 1 0 ∷ []) ∷ []
+
+abbrev mixed : List (List ℕ)
+mixed = colors (slot 0 1 0 ∷ slot 2 1 0 ∷ slot 3 1 0 ∷ []) ∷ []
+
+color-bytes : (alone (bytesFile 20) ascending ++ alone (bytesFile 19) ascending ++ alone (bytesFile 17) descending ++ alone (bytesFile 16) descending
+    ++ alone (bytesFile 3) mixed ++ alone (bytesFile 2) mixed)
+    ≡ (accepted 0 4 1 0 0 ∷ refused 0 51 1 17 0 ∷ accepted 0 4 1 0 0 ∷ refused 0 51 0 17 0 ∷ refused 0 37 1 17 0 ∷ refused 0 51 0 17 0 ∷ [])
+unfolding computing
+color-bytes = refl
+
+-- Over the limit, a slice for a D2 view is a 40 at its slot; the same view twice is a 51 at the first, and no 41 at the second.
+bytes-between : alone (limitedFile 8 0 1 15 (plain ∷ []) (whole 0 ∷ []))
+    (colors (sliceSlot 0 1 0 noView 1 0 ∷ slot 0 1 0 ∷ []) ∷ colors (slot 0 1 0 ∷ slot 0 1 0 ∷ []) ∷ [])
+    ≡ (refused 0 40 0 17 0 ∷ refused 0 51 0 17 0 ∷ [])
+unfolding computing
+bytes-between = refl
 
 -- Buffers: no attachment (46); a discard, and its buffer ends; a load after that returns nothing. A discard, then Load with Discard: one clear, and the
 -- surface is listed again. Flag 2 is a 5 and ends nothing, so that the next load returns it.

@@ -7,7 +7,7 @@ use Rattle.definition.specs.declared.sizes.Sizes.{Sizes}
 
 -- Bytes of the header and of a row of each table.
 abbrev pub headerBytes : ℕ
-headerBytes = 40
+headerBytes = 44
 
 abbrev pub textureBytes : ℕ
 textureBytes = 32
@@ -20,7 +20,7 @@ passBytes = 504
 
 -- Where the total length stands: last in the header.
 abbrev pub totalLengthAt : ℕ
-totalLengthAt = 36
+totalLengthAt = 40
 
 -- In a pass row, where the colour slots start, and the bytes of one.
 abbrev pub slotStart : ℕ
@@ -46,12 +46,15 @@ maxSlots = 8
 abbrev pub longestSession : ℕ
 longestSession = headerBytes + textureBytes * maxTextures + viewBytes * maxViews + passBytes * maxPasses
 
--- The most views of a multiview pass, the largest flags field, and the limits of a texture row.
+-- The most views of a multiview pass, the largest flags field, the largest limit of colour bytes per sample, and the limits of a texture row.
 abbrev pub maxMultiviews : ℕ
 maxMultiviews = 32
 
 abbrev pub maxFlags : ℕ
 maxFlags = 15
+
+abbrev pub maxColorBytes : ℕ
+maxColorBytes = 128
 
 abbrev pub maxSize : ℕ
 maxSize = 16384
@@ -169,6 +172,7 @@ everySize = record {
   «longest_session» = longestSession;
   «max_multiviews» = maxMultiviews;
   «max_flags» = maxFlags;
+  «max_color_bytes» = maxColorBytes;
   «max_size» = maxSize;
   «max_layers» = maxLayers;
   «max_mips» = maxMips;

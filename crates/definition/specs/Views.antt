@@ -60,13 +60,14 @@ overlapVerdict taken v slice place = unless (not (meets (takes v slice) taken)) 
 unfoldable pub depthStencilView : Session → View → Verdict
 depthStencilView S v = multiviewVerdict S noneSeen v atDepthStencil then viewVerdict S noneSeen v atDepthStencil
 
--- A colour view: 30 to 41.
-unfoldable pub colorView : Session → Seen → List Surface → Slot → View → ℕ → Verdict
-colorView S seen taken c v k =
+-- A colour view, of a pass whose colours fit into a sample or not: 30 to 40, 51, 41.
+unfoldable pub colorView : Session → Seen → Bool → List Surface → Slot → View → ℕ → Verdict
+colorView S seen fit taken c v k =
     multiviewVerdict S seen v k
     then viewVerdict S seen v k
     then unless (isColor (formatOf v)) 37 k
     then sliceVerdict S c v k
+    then unless fit 51 k
     then overlapVerdict taken v (c .slice) k
 
 -- A resolve target r, by itself: 30 to 33, 48, 41, 34.

@@ -22,6 +22,12 @@ pub struct Aspects {
     pub stencil: bool,
 }
 
+// What a colour of a format adds to a sample: bytes, and what the sum is rounded up to before.
+pub struct TargetCost {
+    pub cost: u32,
+    pub alignment: u32,
+}
+
 // A view row: `mips` mips from `mip` on, `layers` layers from `layer` on, shown in `format`.
 // Dimension: 1 D1, 2 D2, 3 D2Array, 4 Cube, 5 CubeArray, 6 D3.
 pub struct View {

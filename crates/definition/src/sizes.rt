@@ -4,7 +4,7 @@ ghost use mathlib.Core.Path.{_≡_};
 ghost use Rattle.definition.specs.Sizes as D;
 
 // Bytes of the header.
-pub const HEADER_BYTES: usize = 40;
+pub const HEADER_BYTES: usize = 44;
 
 // Bytes of a texture row.
 pub const TEXTURE_BYTES: usize = 32;
@@ -16,7 +16,7 @@ pub const VIEW_BYTES: usize = 36;
 pub const PASS_BYTES: usize = 504;
 
 // Where the total length stands.
-pub const TOTAL_LENGTH_AT: usize = 36;
+pub const TOTAL_LENGTH_AT: usize = 40;
 
 // Where the colour slots of a pass row start.
 pub const SLOT_START: usize = 56;
@@ -47,6 +47,9 @@ pub const MAX_MULTIVIEWS: u32 = 32;
 
 // The largest flags field.
 pub const MAX_FLAGS: u32 = 15;
+
+// The largest limit of colour bytes per sample.
+pub const MAX_COLOR_BYTES: u32 = 128;
 
 // The greatest width and height of a texture.
 pub const MAX_SIZE: u32 = 16384;
@@ -145,6 +148,7 @@ pub struct Sizes {
     pub longest_session: usize,
     pub max_multiviews: u32,
     pub max_flags: u32,
+    pub max_color_bytes: u32,
     pub max_size: u32,
     pub max_layers: u32,
     pub max_mips: u32,
@@ -193,6 +197,7 @@ pub fn every_size() -> Sizes
         longest_session: LONGEST_SESSION,
         max_multiviews: MAX_MULTIVIEWS,
         max_flags: MAX_FLAGS,
+        max_color_bytes: MAX_COLOR_BYTES,
         max_size: MAX_SIZE,
         max_layers: MAX_LAYERS,
         max_mips: MAX_MIPS,

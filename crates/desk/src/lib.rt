@@ -157,7 +157,7 @@ fn pass_lent(
     check_lent(session, i, discards, actions, clears, n)
 }
 
-// The check of pass number i: 6 for a buffer that is too short, 1 to 4 for the session, 6 for what is lent, 5 and 10 to 50 for the pass.
+// The check of pass number i: 6 for a buffer that is too short, 1 to 4 for the session, 6 for what is lent, 5 and 10 to 51 for the pass.
 // An accepted pass replaces the clears and leaves discards and actions as they are after it; a refusal leaves every byte.
 #[no_mangle]
 pub extern "C" fn deskcheck_pass(

@@ -11,7 +11,7 @@ use lib.ListN.{length, drop, getD}
 use Rattle.definition.specs.Session.{Session, Pass, surfacesIn, surfacesBefore}
 use Rattle.definition.specs.Verdict.{isFine}
 use Rattle.definition.specs.Readable.{textureRight, texturesRead, viewRight, viewsRead, slotReads, slotsRead}
-use Rattle.definition.specs.Check.{slotTakes, takenBefore, slotStep, nextSlot, slotSteps}
+use Rattle.definition.specs.Check.{slotTakes, takenBefore, withSlot, sampleBytes, slotStep, nextSlot, slotSteps}
 use Rattle.definition.specs.Attachments.{slotPart, slotParts}
 use Rattle.definition.specs.Calls.{bytesRight}
 use Rattle.definition.specs.declared.Progress.{Progress}
@@ -108,22 +108,31 @@ pub parts-turn : (S : Session) (p : Pass) (n : ℕ) → slotParts S p (n + 1) �
 unfolding slotParts
 parts-turn S p n = rw add-one
 
+-- The colour bytes of one slot more.
+pub sample-none : (S : Session) (p : Pass) → sampleBytes S p 0 ≡ 0
+unfolding sampleBytes
+sample-none S p = refl
+
+pub sample-turn : (S : Session) (p : Pass) (n : ℕ) → sampleBytes S p (n + 1) ≡ withSlot S (p .slot n) (sampleBytes S p n)
+unfolding sampleBytes
+sample-turn S p n = rw add-one
+
 -- A slot's step; once a pass is refused, the steps change nothing.
-pub steps-none : (S : Session) (p : Pass) (a : Progress) → slotSteps S p a 0 ≡ a
+pub steps-none : (S : Session) (p : Pass) (fit : Bool) (a : Progress) → slotSteps S p fit a 0 ≡ a
 unfolding slotSteps
-steps-none S p a = refl
+steps-none S p fit a = refl
 
-pub steps-turn : (S : Session) (p : Pass) (a : Progress) (n : ℕ) → slotSteps S p a (n + 1) ≡ nextSlot S p n (slotSteps S p a n)
+pub steps-turn : (S : Session) (p : Pass) (fit : Bool) (a : Progress) (n : ℕ) → slotSteps S p fit a (n + 1) ≡ nextSlot S p fit n (slotSteps S p fit a n)
 unfolding slotSteps
-steps-turn S p a n = rw add-one
+steps-turn S p fit a n = rw add-one
 
-pub next-fine : (S : Session) (p : Pass) (k : ℕ) (a : Progress) → isFine (a .verdict) ≡ true → nextSlot S p k a ≡ slotStep S p k (a .seen)
+pub next-fine : (S : Session) (p : Pass) (fit : Bool) (k : ℕ) (a : Progress) → isFine (a .verdict) ≡ true → nextSlot S p fit k a ≡ slotStep S p fit k (a .seen)
 unfolding nextSlot
-next-fine S p k a h = ap (λ b. cond b (slotStep S p k (a .seen)) a) h
+next-fine S p fit k a h = ap (λ b. cond b (slotStep S p fit k (a .seen)) a) h
 
-pub next-refused : (S : Session) (p : Pass) (k : ℕ) (a : Progress) → isFine (a .verdict) ≡ false → nextSlot S p k a ≡ a
+pub next-refused : (S : Session) (p : Pass) (fit : Bool) (k : ℕ) (a : Progress) → isFine (a .verdict) ≡ false → nextSlot S p fit k a ≡ a
 unfolding nextSlot
-next-refused S p k a h = ap (λ b. cond b (slotStep S p k (a .seen)) a) h
+next-refused S p fit k a h = ap (λ b. cond b (slotStep S p fit k (a .seen)) a) h
 
 -- ── surfaces
 

@@ -1,12 +1,16 @@
--- A session that is not refused passes the four tests of 1 to 4.
+-- A session that is not refused passes the four tests of 1 to 4, and what the second says of each field of the header.
 use mathlib.Core.Path.{_≡_, refl}
-use mathlib.Core.Bool.{true}
-use mathlib.Core.List.{List}
-use Prim.Native.Nat.{ℕ}
-use borrow.Author.Tests.{eq-eqb}
-use Rattle.definition.specs.Session.{session}
+use mathlib.Core.Bool.{Bool, true}
+use mathlib.Core.List.{List, [], _∷_}
+use Prim.Native.Nat.{ℕ, _≤_}
+use lib.Dec.{leb, eqb}
+use borrow.Author.Tests.{eq-eqb, leb-true, eqb-true}
+use Rattle.definition.specs.Sizes.{headerBytes, maxTextures, maxViews, maxPasses, maxSlots, maxMultiviews, maxFlags, maxColorBytes}
+use Rattle.definition.specs.Session.{session, textureCount, textureOffset, viewCount, viewOffset, passCount, passOffset, maxColors, maxMultiview, flags, colorBytes, totalLength, viewStart, passStart, passEnd}
 use Rattle.definition.specs.Verdict.{nowhere, isFine, unless}
-use Rattle.definition.specs.Readable.{lengthRight, headerRight, texturesRight, viewsRight, sessionVerdict, sessionRefusal}
+use Rattle.definition.specs.Readable.{between, lengthRight, headerRight, texturesRight, viewsRight, sessionVerdict, sessionRefusal}
+use Rattle.laws.proofs.Tests.{and-left, and-right}
+use Rattle.laws.proofs.Conjunctions.{each}
 use Rattle.laws.proofs.Verdicts.{then-left, then-right, unless-on}
 
 pub record Tested (s : List ℕ) : Type 0 where
@@ -27,3 +31,40 @@ tested s h =
       textures = unless-on (texturesRight (session s)) 3 nowhere refl (then-left (unless (texturesRight (session s)) 3 nowhere) _ three);
       views = unless-on (viewsRight (session s)) 4 nowhere refl (then-right (unless (texturesRight (session s)) 3 nowhere) _ three);
     }
+
+-- A number that is between two others.
+pub within : (low high n : ℕ) → between low high n ≡ true → (low ≤ n) × (n ≤ high)
+unfolding between
+within low high n e = (leb-true low n (and-left (leb low n) (leb n high) e), leb-true n high (and-right (leb low n) (leb n high) e))
+
+-- What a right header says of the settings and of the rows' ends.
+pub record RightHeader (s : List ℕ) : Type 0 where
+  pub textures : textureCount s ≤ maxTextures
+  pub views : viewCount s ≤ maxViews
+  pub passes : passCount s ≤ maxPasses
+  pub colors : (1 ≤ maxColors s) × (maxColors s ≤ maxSlots)
+  pub multiview : maxMultiview s ≤ maxMultiviews
+  pub flags : flags s ≤ maxFlags
+  pub colorBytes : (1 ≤ colorBytes s) × (colorBytes s ≤ maxColorBytes)
+  pub end : passEnd s ≡ totalLength s
+
+pub right-header : (s : List ℕ) → headerRight s ≡ true → RightHeader s
+unfolding headerRight
+right-header s e =
+    let test = each tests e in
+    record {
+      textures = leb-true (textureCount s) maxTextures (test 0);
+      views = leb-true (viewCount s) maxViews (test 2);
+      passes = leb-true (passCount s) maxPasses (test 4);
+      colors = within 1 maxSlots (maxColors s) (test 6);
+      multiview = leb-true (maxMultiview s) maxMultiviews (test 7);
+      flags = leb-true (flags s) maxFlags (test 8);
+      colorBytes = within 1 maxColorBytes (colorBytes s) (test 9);
+      end = eqb-true (passEnd s) (totalLength s) (test 10);
+    }
+  where
+    tests : List Bool
+    tests =
+        leb (textureCount s) maxTextures ∷ eqb (textureOffset s) headerBytes ∷ leb (viewCount s) maxViews ∷ eqb (viewOffset s) (viewStart s)
+        ∷ leb (passCount s) maxPasses ∷ eqb (passOffset s) (passStart s) ∷ between 1 maxSlots (maxColors s) ∷ leb (maxMultiview s) maxMultiviews
+        ∷ leb (flags s) maxFlags ∷ between 1 maxColorBytes (colorBytes s) ∷ eqb (passEnd s) (totalLength s) ∷ []

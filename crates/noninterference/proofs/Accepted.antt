@@ -14,7 +14,7 @@ use Rattle.definition.specs.Verdict.{resolveAt, atDepthStencil, nowhere, fine, 
 use Rattle.definition.specs.Readable.{viewsRight, channelReads, depthStencilReads, resolveReads, slotReads, slotsRead, passReads}
 use Rattle.definition.specs.Channel.{ignores, keepOf, transientOps}
 use Rattle.definition.specs.Views.{noneSeen, takes, depthStencilView, colorView, resolveView, seeView}
-use Rattle.definition.specs.Check.{slotLoad, slotOps, colorOps, channelOps, depthStencilOps, opsVerdict, progress, resolveTakes, slotTakes, takenBefore, depthStencilStep, resolveStep, colorStep, slotStep, nextSlot, slotSteps, maskStep, viewSteps, check}
+use Rattle.definition.specs.Check.{slotLoad, slotOps, colorOps, channelOps, depthStencilOps, opsVerdict, progress, resolveTakes, slotTakes, takenBefore, bytesFit, depthStencilStep, resolveStep, colorStep, slotStep, nextSlot, slotSteps, maskStep, viewSteps, check}
 use Rattle.definition.specs.Attachments.{Attached, resolveTo, depthStencilOf, depthStencilPart, resolvePart, colorOf, slotPart, slotParts, attachments, rangeIn, divergentOf}
 use Rattle.definition.specs.Pass.{attachmentReply, ofFirst}
 use Rattle.definition.specs.declared.View.{View}
@@ -93,10 +93,10 @@ module _ (S : Session) (vs : viewsRight S ≡ true) where
           (slot-none S (takes r 0 ++ before) [])
 
   -- Slot k of a pass.
-  slot-facts : (p : Pass) (k : ℕ) (q : Seen) → slotReads S (p .slot k) ≡ true → isFine (slotOps S (p .slot k) k) ≡ true → fineStep (slotStep S p k q) ≡ true
+  slot-facts : (p : Pass) (fit : Bool) (k : ℕ) (q : Seen) → slotReads S (p .slot k) ≡ true → isFine (slotOps S (p .slot k) k) ≡ true → fineStep (slotStep S p fit k q) ≡ true
       → SlotFacts S (takenBefore S p k) (slotPart S (p .slot k)) (slotTakes S (p .slot k))
   unfolding slotReads slotOps slotStep colorStep slotPart
-  slot-facts p k q ok ops h = go (isNone (s .view)) ok ops h
+  slot-facts p fit k q ok ops h = go (isNone (s .view)) ok ops h
     where
       s : Slot
       s = p .slot k
@@ -113,8 +113,8 @@ module _ (S : Session) (vs : viewsRight S ≡ true) where
       allowed : Verdict
       allowed = unless (not (ignores (slotLoad s) && strict S)) 11 k then unless (not (transient v) || transientOps (slotLoad s) (keepOf (s .store))) 12 k
 
-      full : reads ≡ true → isFine allowed ≡ true → (b : Bool) → isFine (colorView S q taken s v k) ≡ b
-          → fineStep (cond b (resolveStep S (seeView S q v k) taken s v k) (progress (colorView S q taken s v k) q)) ≡ true
+      full : reads ≡ true → isFine allowed ≡ true → (b : Bool) → isFine (colorView S q fit taken s v k) ≡ b
+          → fineStep (cond b (resolveStep S (seeView S q v k) taken s v k) (progress (colorView S q fit taken s v k) q)) ≡ true
           → SlotFacts S taken (colorOf S s ∷ resolvePart S s) (resolveTakes S s ++ takes v (s .slice))
       full ok ops false e h = clash h e
       full ok ops true e h =
@@ -123,15 +123,15 @@ module _ (S : Session) (vs : viewsRight S ≡ true) where
           let r3 : (ltb (s .view) (S .viewCount) && leb (s .sliced) 1) ≡ true = and-left _ (resolveReads S (s .resolve)) r2 in
           let known : ViewFacts S v = view-facts S vs (s .view) (and-left (ltb (s .view) (S .viewCount)) (leb (s .sliced) 1) r3) in
           let cares : strict S ≡ true → ignores (slotLoad s) ≡ false = strict-off (ignores (slotLoad s)) (strict S) (unless-on (not (ignores (slotLoad s) && strict S)) 11 k refl (then-left _ _ ops)) in
-          let f : ColorFacts S (colorOf S s) × (meets (takes v (s .slice)) taken ≡ false) × (isColor (formatOf v) ≡ true) = color-facts S s k q taken known cares e in
+          let f : ColorFacts S (colorOf S s) × (meets (takes v (s .slice)) taken ≡ false) × (isColor (formatOf v) ≡ true) = color-facts S s k q fit taken known cares e in
           slot-more S taken (takes v (s .slice)) (resolveTakes S s) (colorOf S s) (resolvePart S s) (f .0) (λ fl. takes-reached v (s .slice) (f .0 .mip) (known .flat fl)) (f .1)
           (resolve-facts s k v (seeView S q v k) taken (and-right (ltb (s .view) (S .viewCount) && leb (s .sliced) 1) (resolveReads S (s .resolve)) r2) (f .2) h)
 
       go : (b : Bool) → (b || reads) ≡ true → isFine (cond b fine allowed) ≡ true
-          → fineStep (cond b (progress fine q) (colorStep S q taken s v k)) ≡ true
+          → fineStep (cond b (progress fine q) (colorStep S q fit taken s v k)) ≡ true
           → SlotFacts S taken (cond b [] (colorOf S s ∷ resolvePart S s)) (cond b [] (resolveTakes S s ++ takes v (s .slice)))
       go true ok ops h = slot-none S taken []
-      go false ok ops h = full ok ops (isFine (colorView S q taken s v k)) refl h
+      go false ok ops h = full ok ops (isFine (colorView S q fit taken s v k)) refl h
 
   -- ── all slots
 
@@ -141,27 +141,27 @@ module _ (S : Session) (vs : viewsRight S ≡ true) where
     taken : Flat S → (s : Surface) → reached s (slotParts S p n) ≡ true → elem s (takenBefore S p n) ≡ true
 
   -- A step is fine where what came before it is.
-  next-start : (p : Pass) (k : ℕ) (a : Progress) → fineStep (nextSlot S p k a) ≡ true → fineStep a ≡ true
-  next-start p k a h = go (fineStep a) refl
+  next-start : (p : Pass) (fit : Bool) (k : ℕ) (a : Progress) → fineStep (nextSlot S p fit k a) ≡ true → fineStep a ≡ true
+  next-start p fit k a h = go (fineStep a) refl
     where
       go : (b : Bool) → fineStep a ≡ b → fineStep a ≡ true
       go true e = e
-      go false e = ap fineStep (sym (next-refused S p k a e)) ∙ h
+      go false e = ap fineStep (sym (next-refused S p fit k a e)) ∙ h
 
-  steps-start : (p : Pass) (a : Progress) (n : ℕ) → fineStep (slotSteps S p a n) ≡ true → fineStep a ≡ true
+  steps-start : (p : Pass) (fit : Bool) (a : Progress) (n : ℕ) → fineStep (slotSteps S p fit a n) ≡ true → fineStep a ≡ true
   unfolding slotSteps
-  steps-start p a zero h = h
-  steps-start p a (suc n) h = steps-start p a n (next-start p n (slotSteps S p a n) h)
+  steps-start p fit a zero h = h
+  steps-start p fit a (suc n) h = steps-start p fit a n (next-start p fit n (slotSteps S p fit a n) h)
 
-  slots-facts : (p : Pass) (a : Progress) (n : ℕ) → slotsRead S p n ≡ true → isFine (colorOps S p n) ≡ true → fineStep (slotSteps S p a n) ≡ true → SlotsFacts p n
+  slots-facts : (p : Pass) (fit : Bool) (a : Progress) (n : ℕ) → slotsRead S p n ≡ true → isFine (colorOps S p n) ≡ true → fineStep (slotSteps S p fit a n) ≡ true → SlotsFacts p n
   unfolding slotsRead colorOps slotSteps slotParts takenBefore
-  slots-facts p a zero ok ops h = record { facts = tt; distinct = λ fl. tt; taken = λ fl s e. clash {b = false} e refl }
-  slots-facts p a (suc n) ok ops h =
-      let g : fineStep (slotSteps S p a n) ≡ true = next-start p n (slotSteps S p a n) h in
-      let r : SlotsFacts p n = slots-facts p a n (and-left (slotsRead S p n) _ ok) (then-left (colorOps S p n) _ ops) g in
+  slots-facts p fit a zero ok ops h = record { facts = tt; distinct = λ fl. tt; taken = λ fl s e. clash {b = false} e refl }
+  slots-facts p fit a (suc n) ok ops h =
+      let g : fineStep (slotSteps S p fit a n) ≡ true = next-start p fit n (slotSteps S p fit a n) h in
+      let r : SlotsFacts p n = slots-facts p fit a n (and-left (slotsRead S p n) _ ok) (then-left (colorOps S p n) _ ops) g in
       let f : SlotFacts S (takenBefore S p n) (slotPart S (p .slot n)) (slotTakes S (p .slot n)) =
-      slot-facts p n (slotSteps S p a n .seen) (and-right (slotsRead S p n) (slotReads S (p .slot n)) ok) (then-right (colorOps S p n) (slotOps S (p .slot n) n) ops)
-      (ap fineStep (sym (next-fine S p n (slotSteps S p a n) g)) ∙ h) in
+      slot-facts p fit n (slotSteps S p fit a n .seen) (and-right (slotsRead S p n) (slotReads S (p .slot n)) ok) (then-right (colorOps S p n) (slotOps S (p .slot n) n) ops)
+      (ap fineStep (sym (next-fine S p fit n (slotSteps S p fit a n) g)) ∙ h) in
       record {
         facts = all-append (ColorFacts S) (slotParts S p n) (slotPart S (p .slot n)) (r .facts) (f .facts);
         distinct = λ fl. distinct-append (slotParts S p n) (slotPart S (p .slot n)) (r .distinct fl) (f .distinct fl) (λ s e. f .apart fl s (r .taken fl s e));
@@ -201,7 +201,7 @@ record Accepted (S : Session) (p : Pass) : Type 0 where
   reads : Reads S p
   slotOps : isFine (colorOps S p (p .colors)) ≡ true
   depthOps : isFine (depthStencilOps S p) ≡ true
-  steps : fineStep (slotSteps S p (depthStencilStep S p) (p .colors)) ≡ true
+  steps : fineStep (slotSteps S p (bytesFit S p) (depthStencilStep S p) (p .colors)) ≡ true
 
 check-parts : (S : Session) (p : Pass) → fineStep (check S p) ≡ true → Accepted S p
 unfolding check opsVerdict viewSteps maskStep
@@ -253,8 +253,8 @@ depth-apart S t (x ∷ xs) n h s e = go (reaches x s) refl (depth-apart S t xs n
 pub accepted-okay : (S : Session) → viewsRight S ≡ true → (p : Pass) → fineStep (check S p) ≡ true → Okay S (attachments S p)
 unfolding attachments depthStencilPart depthStencilStep depthStencilReads depthStencilOps
 accepted-okay S vs p h =
-    go (isNone (p .depthStencil)) (k .reads .depth) (k .depthOps) (steps-start S vs p (depthStencilStep S p) (p .colors) (k .steps))
-    (slots-facts S vs p (depthStencilStep S p) (p .colors) (k .reads .slots) (k .slotOps) (k .steps))
+    go (isNone (p .depthStencil)) (k .reads .depth) (k .depthOps) (steps-start S vs p (bytesFit S p) (depthStencilStep S p) (p .colors) (k .steps))
+    (slots-facts S vs p (bytesFit S p) (depthStencilStep S p) (p .colors) (k .reads .slots) (k .slotOps) (k .steps))
   where
     k : Accepted S p
     k = check-parts S p h

@@ -172,11 +172,11 @@ target-facts S v n place q taken known col h =
     )
 
 -- A colour: 11, 34, 37, 41.
-pub color-facts : (S : Session) (c : Slot) (k : ℕ) (q : Seen) (taken : List Surface) → ViewFacts S (S .view (c .view)) → (strict S ≡ true → ignores (slotLoad c) ≡ false)
-    → isFine (colorView S q taken c (S .view (c .view)) k) ≡ true
+pub color-facts : (S : Session) (c : Slot) (k : ℕ) (q : Seen) (fit : Bool) (taken : List Surface) → ViewFacts S (S .view (c .view)) → (strict S ≡ true → ignores (slotLoad c) ≡ false)
+    → isFine (colorView S q fit taken c (S .view (c .view)) k) ≡ true
     → ColorFacts S (colorOf S c) × (meets (takes (S .view (c .view)) (c .slice)) taken ≡ false) × (isColor (formatOf (S .view (c .view))) ≡ true)
 unfolding colorView viewVerdict overlapVerdict
-color-facts S c k q taken known cares h =
+color-facts S c k q fit taken known cares h =
     let v : View = S .view (c .view) in
     let from-34 = then-right (multiviewVerdict S q v k) _ h in
     let from-37 = then-right (viewVerdict S q v k) _ from-34 in
@@ -192,7 +192,7 @@ color-facts S c k q taken known cares h =
         colored = col;
         told = λ d. color-told S (c .view) d (operational (slotLoad c) (keepOf (c .store))) col;
       },
-      not-off _ (unless-on (not (meets (takes v (c .slice)) taken)) 41 k refl (then-right (sliceVerdict S c v k) _ from-38)),
+      not-off _ (unless-on (not (meets (takes v (c .slice)) taken)) 41 k refl (then-right (unless fit 51 k) _ (then-right (sliceVerdict S c v k) _ from-38))),
       shown,
     )
 

@@ -2,7 +2,7 @@
 use mathlib.Core.Path.{_≡_, sym, ap, _∙_}
 use mathlib.Core.List.{List}
 use mathlib.Core.Logic.{⊎-elim}
-use Prim.Native.Nat.{ℕ, _≤_, _<_}
+use Prim.Native.Nat.{ℕ, _+_, _≤_, _<_}
 use native.Mathlib.Omega.{arith}
 use borrow.Author.Tests.{ne-eqb}
 use lib.Dec.{eqb}
@@ -24,7 +24,12 @@ use Rattle.print.proofs.Printed.{printed-refusal, long-not-readable}
 field-front : (n : ℕ) (l : List ℕ) → longestSession < n → totalLength (take n l) ≡ totalLength l
 unfolding u32At
 field-front n l h =
-    simp (getD-take n l totalLengthAt 0 (omega arith), getD-take n l 37 0 (omega arith), getD-take n l 38 0 (omega arith), getD-take n l 39 0 (omega arith))
+    simp (
+      getD-take n l totalLengthAt 0 (omega arith),
+      getD-take n l (totalLengthAt + 1) 0 (omega arith),
+      getD-take n l (totalLengthAt + 2) 0 (omega arith),
+      getD-take n l (totalLengthAt + 3) 0 (omega arith),
+    )
 
 module _ {buffer : List ℕ} {held bytes : ℕ} {file : List ℕ} (holds : Holds buffer held bytes file) (room : held ≤ length buffer) where
   -- No more than a session may have: they are the file.

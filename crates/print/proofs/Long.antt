@@ -1,34 +1,25 @@
 -- A header that is right has its passes end at or before the longest session's end, so that a longer file is refused as 1 or 2.
 use mathlib.Core.Path.{_≡_, refl, ap, _∙_}
 use mathlib.Core.Bool.{Bool, true, false, _&&_, cond}
-use mathlib.Core.List.{List, [], _∷_}
+use mathlib.Core.List.{List}
 use Prim.Native.Nat.{ℕ, _<_, _≤_}
 use native.Mathlib.Omega.{arith}
 use lib.Dec.{leb, eqb}
 use lib.ListN.{length}
-use borrow.Author.Tests.{leb-true, eqb-true, le-leb}
-use Rattle.definition.specs.Sizes.{headerBytes, maxTextures, maxViews, maxPasses, maxSlots, maxMultiviews, maxFlags, longestSession}
-use Rattle.definition.specs.Session.{session, textureCount, textureOffset, viewCount, viewOffset, passCount, passOffset, maxColors, maxMultiview, flags, totalLength, viewStart, passStart, passEnd}
+use borrow.Author.Tests.{eqb-true, le-leb}
+use Rattle.definition.specs.Sizes.{headerBytes, longestSession}
+use Rattle.definition.specs.Session.{session, totalLength}
 use Rattle.definition.specs.Verdict.{_then_, unless, nowhere, fine, refusedAt}
-use Rattle.definition.specs.Readable.{between, lengthRight, headerRight, texturesRight, viewsRight, sessionVerdict, sessionRefusal}
+use Rattle.definition.specs.Readable.{lengthRight, headerRight, texturesRight, viewsRight, sessionVerdict, sessionRefusal}
 use Rattle.definition.specs.declared.Verdict.{Verdict}
 use Rattle.laws.proofs.Tests.{and-on, and-off-right}
-use Rattle.laws.proofs.Conjunctions.{each}
+use Rattle.laws.proofs.Readable.{right-header}
 use Rattle.laws.proofs.Verdicts.{then-stop, then-go, unless-fine, unless-refused}
 use Rattle.print.specs.Oversize.{oversizeNumber}
 
 -- A right header's length field is at most the longest session's length.
 header-most : (s : List ℕ) → headerRight s ≡ true → totalLength s ≤ longestSession
-unfolding headerRight
-header-most s h =
-    let test = each tests h in
-    omega (arith, leb-true (textureCount s) maxTextures (test 0), leb-true (viewCount s) maxViews (test 2), leb-true (passCount s) maxPasses (test 4), eqb-true (passEnd s) (totalLength s) (test 9))
-  where
-    tests : List Bool
-    tests =
-        leb (textureCount s) maxTextures ∷ eqb (textureOffset s) headerBytes ∷ leb (viewCount s) maxViews ∷ eqb (viewOffset s) (viewStart s) ∷ leb (passCount s) maxPasses
-        ∷ eqb (passOffset s) (passStart s) ∷ between 1 maxSlots (maxColors s) ∷ leb (maxMultiview s) maxMultiviews ∷ leb (flags s) maxFlags
-        ∷ eqb (passEnd s) (totalLength s) ∷ []
+header-most s e = let h = right-header s e in omega (arith, h .textures, h .views, h .passes, h .end)
 
 -- So a longer file is refused as 1 where its length field is wrong, else as 2.
 pub long-refused : (s : List ℕ) → longestSession < length s → sessionRefusal s ≡ oversizeNumber (totalLength s) (length s)

@@ -7,27 +7,23 @@ use Prim.Native.Nat.{ℕ, _≤_, _<_}
 use native.Mathlib.Nat.{le-trans, lt-of-lt-of-le}
 use native.Mathlib.Omega.{arith}
 use lib.Dec.{leb, ltb, eqb}
-use lib.ListN.{length, getD}
+use lib.ListN.{length}
 use borrow.Author.Tests.{leb-true, ltb-true, eqb-true}
-use Rattle.definition.specs.Sizes.{headerBytes, maxTextures, maxViews, maxPasses, maxSlots, maxMultiviews, maxFlags, maxSize, maxLayers, maxMips, maxUsage, maxSurfaces}
+use Rattle.definition.specs.Sizes.{headerBytes, maxSlots, maxSize, maxLayers, maxMips, maxUsage, maxSurfaces}
 use Rattle.definition.specs.Formats.{isColor, isFormat}
-use Rattle.definition.specs.Session.{Pass, Session, session, textureCount, textureOffset, viewCount, viewOffset, passCount, passOffset, maxColors, maxMultiview, flags, totalLength, viewStart, passStart, passEnd, isNone, arrayLayers, surfaceCount}
-use Rattle.definition.specs.Readable.{between, lengthRight, headerRight, samplesRight, textureRight, texturesRead, texturesRight, sessionRefusal, channelReads, depthStencilReads, resolveReads, slotReads, slotsRead, passReads}
+use Rattle.definition.specs.Session.{Pass, Session, session, textureCount, viewCount, totalLength, isNone, arrayLayers, surfaceCount}
+use Rattle.definition.specs.Readable.{between, lengthRight, samplesRight, textureRight, texturesRead, texturesRight, sessionRefusal, channelReads, depthStencilReads, resolveReads, slotReads, slotsRead, passReads}
 use Rattle.definition.specs.declared.Texture.{Texture}
 use Rattle.definition.specs.declared.Slot.{Slot}
 use Rattle.laws.proofs.Tests.{clash, and-left, and-right, or-second}
 use Rattle.laws.proofs.Folds.{textures-each, views-each, slots-read-each, before-grows}
 use Rattle.laws.proofs.Places.{place-counted}
 use Rattle.laws.proofs.Views.{valid-view}
-use Rattle.laws.proofs.Readable.{tested}
+use Rattle.laws.proofs.Readable.{tested, within, right-header}
 use Rattle.readable.specs.Valid.{ValidTexture, Valid, ValidSlot, ValidDepthStencil, ValidPass}
 use Rattle.laws.proofs.Conjunctions.{each}
 
 -- ── a texture row
-
-within : (low high n : ℕ) → between low high n ≡ true → (low ≤ n) × (n ≤ high)
-unfolding between
-within low high n e = (leb-true low n (and-left (leb low n) (leb n high) e), leb-true n high (and-right (leb low n) (leb n high) e))
 
 -- One layer, or as many as the texture is deep.
 layered : (t : Texture) → (1 ≤ t .depth) × (t .depth ≤ maxLayers) → (1 ≤ arrayLayers t) × (arrayLayers t ≤ maxLayers)
@@ -63,16 +59,6 @@ valid-texture t e =
 
 -- ── the session
 
-abbrev headerTests : List ℕ → List Bool
-headerTests s =
-    leb (textureCount s) maxTextures ∷ eqb (textureOffset s) headerBytes ∷ leb (viewCount s) maxViews ∷ eqb (viewOffset s) (viewStart s)
-    ∷ leb (passCount s) maxPasses ∷ eqb (passOffset s) (passStart s) ∷ between 1 maxSlots (maxColors s)
-    ∷ leb (maxMultiview s) maxMultiviews ∷ leb (flags s) maxFlags ∷ eqb (passEnd s) (totalLength s) ∷ []
-
-header-test : (s : List ℕ) → headerRight s ≡ true → (j : ℕ) → getD (headerTests s) j true ≡ true
-unfolding headerRight
-header-test s e = each (headerTests s) e
-
 whole : (s : List ℕ) → lengthRight s ≡ true → totalLength s ≡ length s
 unfolding lengthRight
 whole s e = eqb-true (totalLength s) (length s) (and-right (leb headerBytes (length s)) (eqb (totalLength s) (length s)) e)
@@ -91,19 +77,20 @@ unfolding session
 valid-of s e =
     let S = session s in
     let t = tested s e in
-    let test = header-test s (t .header) in
+    let h = right-header s (t .header) in
     let few = few-surfaces S (t .textures) in
     record {
-      bytes = sym (whole s (t .length)) ∙ sym (eqb-true (passEnd s) (totalLength s) (test 9));
-      textures = leb-true (textureCount s) maxTextures (test 0);
-      views = leb-true (viewCount s) maxViews (test 2);
-      passes = leb-true (passCount s) maxPasses (test 4);
-      colors = within 1 maxSlots (maxColors s) (test 6);
-      multiview = leb-true (maxMultiview s) maxMultiviews (test 7);
-      flags = leb-true (flags s) maxFlags (test 8);
-      texture = λ k h. valid-texture (S .texture k) (textures-each S (S .textureCount) (texture-rows S (t .textures)) k h);
-      view = λ k h. valid-view S (S .view k) (views-each S (S .viewCount) (t .views) k h);
-      surfaces = λ n h. le-trans (before-grows S n (S .textureCount) h) few;
+      bytes = sym (whole s (t .length)) ∙ sym (h .end);
+      textures = h .textures;
+      views = h .views;
+      passes = h .passes;
+      colors = h .colors;
+      multiview = h .multiview;
+      flags = h .flags;
+      colorBytes = h .colorBytes;
+      texture = λ k i. valid-texture (S .texture k) (textures-each S (S .textureCount) (texture-rows S (t .textures)) k i);
+      view = λ k i. valid-view S (S .view k) (views-each S (S .viewCount) (t .views) k i);
+      surfaces = λ n i. le-trans (before-grows S n (S .textureCount) i) few;
       surface = λ x i. lt-of-lt-of-le (place-counted S x i) few;
     }
 

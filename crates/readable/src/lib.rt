@@ -5,6 +5,7 @@ use definition::Slot;
 use definition::Texture;
 use definition::View;
 use definition::sizes::HEADER_BYTES;
+use definition::sizes::MAX_COLOR_BYTES;
 use definition::sizes::MAX_FLAGS;
 use definition::sizes::MAX_LAYERS;
 use definition::sizes::MAX_MIPS;
@@ -30,6 +31,7 @@ use session::formats::remove_srgb_suffix;
 use session::header::PASS_OFFSET;
 use session::header::TEXTURE_OFFSET;
 use session::header::VIEW_OFFSET;
+use session::header::color_bytes;
 use session::header::flags;
 use session::header::max_colors;
 use session::header::max_multiview;
@@ -84,6 +86,7 @@ fn header_right(s: &[u8]) -> bool
         & between(1, MAX_SLOTS, max_colors(s))
         & (max_multiview(s) <= MAX_MULTIVIEWS)
         & (flags(s) <= MAX_FLAGS)
+        & between(1, MAX_COLOR_BYTES, color_bytes(s))
         & (pass_end(s) == u32_at(s, TOTAL_LENGTH_AT) as usize)
 }
 

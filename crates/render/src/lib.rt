@@ -1,10 +1,11 @@
-// The check of one pass: numbers 5 and 10 to 50, the reply, and what it leaves in the lent lists (RenderPassInfo).
+// The check of one pass: numbers 5 and 10 to 51, the reply, and what it leaves in the lent lists (RenderPassInfo).
 // It decides first and writes last: judging writes no lent list, and only an accepted pass is recorded.
 // In `replies`: the attachments of a reply.
 pub mod replies;
 
 use attachments::DepthStencilPart;
 use attachments::depth_stencil_part;
+use colors::bytes_fit;
 use colors::depth_stencil_step;
 use colors::slot_steps;
 use definition::Progress;
@@ -61,13 +62,14 @@ pub struct PassOutcome {
     pub counts: Counts,
 }
 
-// 30 to 48: the depth-stencil view, then each slot, then the mask.
+// 30 to 48 and 51: the depth-stencil view, then each slot, then the mask.
 fn view_steps(s: &[u8], pass: u32) -> Progress
     requires { ⌜ session (now s) .pass pass .colors ≤ maxSlots ⌝ }
     ensures { λ r. ⌜ r ≡ viewSteps (session (now (s .entry))) (session (now (s .entry)) .pass pass) ⌝ }
 {
     let n = session::colors(s, pass);
-    let walked = slot_steps(s, pass, depth_stencil_step(s, pass), n);
+    let fit = bytes_fit(s, pass, n);
+    let walked = slot_steps(s, pass, fit, depth_stencil_step(s, pass), n);
     let judged = walked.verdict;
     let seen = walked.seen;
     Progress {
@@ -76,7 +78,7 @@ fn view_steps(s: &[u8], pass: u32) -> Progress
     }
 }
 
-// 5 and 10 to 48, and what the views have fixed.
+// 5, 10 to 48 and 51, and what the views have fixed.
 fn start(s: &[u8], pass: u32) -> Progress
     ensures { λ r. ⌜ r ≡ check (session (now (s .entry))) (session (now (s .entry)) .pass pass) ⌝ }
 {
@@ -176,7 +178,7 @@ fn accept(
     finish(s, pass, d, seen, after)
 }
 
-// One pass check, of a session whose views can be read. Judging writes nothing: 5 and 10 to 48 read the session, 49 and 50 follow a copy of the discards.
+// One pass check, of a session whose views can be read. Judging writes nothing: 5, 10 to 48 and 51 read the session, 49 and 50 follow a copy of the discards.
 pub fn check_pass(
     s: &[u8],
     pass: u32,

@@ -1,10 +1,11 @@
-// Texture formats by document 01's numbers, their aspects and siblings, and mip sizes. Every number has an answer: a number that is no
-// format has no aspect, and a mip past the last has size 1.
+// Texture formats by document 01's numbers: their aspects, siblings and bytes per sample, and mip sizes. Every number has an answer: a number that is
+// no format has no aspect and costs nothing, and a mip past the last has size 1.
 use definition::Aspects;
+use definition::TargetCost;
 ghost use mathlib.Core.Path.{_≡_};
-ghost use Prim.Native.Nat.{_/_, _^_, _%_};
+ghost use Prim.Native.Nat.{_+_, _/_, _^_, _%_, _≤_, _<_};
 ghost use Rattle.definition.specs.Formats as Fo;
-ghost use Rattle.definition.specs.Formats.{isColor, isDepthStencil, isFormat, hasDepth, hasStencil, removeSrgbSuffix, mipSize};
+ghost use Rattle.definition.specs.Formats.{isColor, isDepthStencil, isFormat, hasDepth, hasStencil, removeSrgbSuffix, targetCost, roundUp, withColor, mipSize};
 
 // W3C "Plain color formats": 1 r8unorm to 14 rg11b10ufloat.
 pub fn is_color(format: u32) -> bool
@@ -65,6 +66,46 @@ pub fn remove_srgb_suffix(format: u32) -> u32
         6 => 5, // bgra8unorm-srgb
         _ => format,
     }
+}
+
+// What a colour of the format costs in a sample, in the order of W3C's table of colour formats.
+fn target_cost(format: u32) -> TargetCost
+    ensures { λ r. ⌜ (r ≡ targetCost format) × (1 ≤ r .alignment) × (r .alignment ≤ 4) × (r .cost ≤ 16) ⌝ }
+{
+    match format {
+        1 => TargetCost { cost: 1, alignment: 1 }, // r8unorm
+        2 => TargetCost { cost: 2, alignment: 1 }, // rg8unorm
+        3 => TargetCost { cost: 8, alignment: 1 }, // rgba8unorm
+        4 => TargetCost { cost: 8, alignment: 1 }, // rgba8unorm-srgb
+        5 => TargetCost { cost: 8, alignment: 1 }, // bgra8unorm
+        6 => TargetCost { cost: 8, alignment: 1 }, // bgra8unorm-srgb
+        7 => TargetCost { cost: 2, alignment: 2 }, // r16float
+        8 => TargetCost { cost: 4, alignment: 2 }, // rg16float
+        9 => TargetCost { cost: 8, alignment: 2 }, // rgba16float
+        10 => TargetCost { cost: 4, alignment: 4 }, // r32float
+        11 => TargetCost { cost: 8, alignment: 4 }, // rg32float
+        12 => TargetCost { cost: 16, alignment: 4 }, // rgba32float
+        13 => TargetCost { cost: 8, alignment: 4 }, // rgb10a2unorm
+        14 => TargetCost { cost: 8, alignment: 4 }, // rg11b10ufloat
+        _ => TargetCost { cost: 0, alignment: 1 },
+    }
+}
+
+// The least multiple of k that is n or more. In u64 there is room for it.
+fn round_up(k: u32, n: u32) -> u64
+    requires { ⌜ 1 ≤ k ⌝ }
+    ensures { λ r. ⌜ (r ≡ roundUp k n) × (r < n + k) ⌝ }
+{
+    let wide = k as u64;
+    (n as u64 + wide - 1) / wide * wide
+}
+
+// The bytes of a sample with a colour of the format more: at most 3 to round up, and 16.
+pub fn with_color(bytes: u32, format: u32) -> u64
+    ensures { λ r. ⌜ (r ≡ withColor bytes format) × (r ≤ bytes + 19) ⌝ }
+{
+    let t = target_cost(format);
+    round_up(t.alignment, bytes) + t.cost as u64
 }
 
 // The size divided by 2 to the mip, rounded down. Of a mip the low 5 bits count: a u32 has no more.

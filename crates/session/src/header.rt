@@ -30,6 +30,9 @@ const MAX_MULTIVIEW: usize = 28;
 // Where its flags stand.
 const FLAGS: usize = 32;
 
+// Where its limit of colour bytes per sample stands.
+const COLOR_BYTES: usize = 36;
+
 // The number of texture rows.
 pub fn texture_count(s: &[u8]) -> u32
     ensures { λ r. ⌜ r ≡ session (now (s .entry)) .textureCount ⌝ }
@@ -70,4 +73,11 @@ pub fn flags(s: &[u8]) -> u32
     ensures { λ r. ⌜ r ≡ session (now (s .entry)) .flags ⌝ }
 {
     u32_at(s, FLAGS)
+}
+
+// The limit of colour bytes per sample.
+pub fn color_bytes(s: &[u8]) -> u32
+    ensures { λ r. ⌜ r ≡ session (now (s .entry)) .colorBytes ⌝ }
+{
+    u32_at(s, COLOR_BYTES)
 }

@@ -113,13 +113,19 @@ pub fn view_shape(s: &[u8], textures: u32, k: u32) -> View
     }
 }
 
+// The format of view row k.
+pub fn view_format(s: &[u8], k: u32) -> u32
+    ensures { λ r. ⌜ r ≡ session (now (s .entry)) .view k .format ⌝ }
+{
+    u32_at(s, view_at(texture_count(s), k) + VIEW_FORMAT)
+}
+
 // View row k.
 pub fn view(s: &[u8], k: u32) -> View
     ensures { λ r. ⌜ r ≡ session (now (s .entry)) .view k ⌝ }
 {
-    let textures = texture_count(s);
-    let mut v = view_shape(s, textures, k);
-    v.format = u32_at(s, view_at(textures, k) + VIEW_FORMAT);
+    let mut v = view_shape(s, texture_count(s), k);
+    v.format = view_format(s, k);
     v
 }
 
@@ -221,6 +227,13 @@ pub fn slot(s: &[u8], pass: u32, k: u32) -> Slot
         store: row.n5,
         clear: color_at(s, at + SLOT_CLEAR),
     }
+}
+
+// The view of slot k.
+pub fn slot_view(s: &[u8], pass: u32, k: u32) -> u32
+    ensures { λ r. ⌜ r ≡ session (now (s .entry)) .pass pass .slot k .view ⌝ }
+{
+    u32_at(s, slot_at(s, pass, k))
 }
 
 // The views of slot k and its slice, which tell the surfaces that it takes.

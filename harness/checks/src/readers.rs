@@ -14,8 +14,8 @@ pub type ByNumber = BTreeMap<u32, u64>;
 /// What is asked: the refusal of a file.
 pub type Refusal<'a> = &'a dyn Fn(&[u8]) -> u32;
 
-/// Longest byte string of the systematic set.
-pub const SHORT: usize = 48;
+/// Longest byte string of the systematic set: a header and two fields.
+pub const SHORT: usize = HEADER_LEN + 2 * FIELD_LEN;
 
 /// Holds one file's refusal to the reader's, and counts it.
 pub fn hold(refusal: Refusal, bytes: &[u8], seen: &mut ByNumber) -> Result<(), String> {
@@ -31,7 +31,7 @@ pub fn hold(refusal: Refusal, bytes: &[u8], seen: &mut ByNumber) -> Result<(), S
     ))
 }
 
-/// Every byte string of the systematic set, up to 48 bytes long.
+/// Every byte string of the systematic set.
 pub fn short_strings(refusal: Refusal) -> Result<ByNumber, String> {
     let mut seen = ByNumber::new();
     for length in 0..=SHORT {
@@ -76,6 +76,7 @@ fn header(total: u32) -> [u32; HEADER_FIELDS] {
         SLOTS as u32,
         MAX_MULTIVIEW,
         ALL_FLAGS,
+        MAX_COLOUR_BYTES,
         total,
     ]
 }
@@ -111,6 +112,7 @@ fn bounds(field: usize) -> Vec<u32> {
         MAX_COLOURS_AT => SLOTS as u32,
         MAX_VIEWS_AT => MAX_MULTIVIEW,
         FLAGS_AT => ALL_FLAGS,
+        COLOUR_BYTES_AT => MAX_COLOUR_BYTES,
         _ => HEADER_LEN as u32,
     };
     let mut all = vec![0, 1, 2, 1 << 8, 1 << 16, 1 << 24, 1 << 31];

@@ -6,6 +6,7 @@ use std::fs;
 use checks::answers::{from_bytes, list, replay, to_bytes, Record};
 use checks::examples::repository;
 use checks::reference::Model;
+use sessions::colour_bytes::{sum, targets};
 use sessions::reader::read;
 
 /// The committed list.
@@ -15,7 +16,7 @@ fn committed() -> Vec<u8> {
 
 #[test]
 fn it_is_what_its_seed_makes() {
-    assert!(to_bytes(&list(9_004, 510)) == committed());
+    assert!(to_bytes(&list(9_019, 510)) == committed());
 }
 
 #[test]
@@ -25,7 +26,7 @@ fn it_has_500_sessions_and_is_small() {
     let records = from_bytes(&bytes).unwrap();
     assert!(records.len() >= 500);
     assert!(to_bytes(&records) == bytes);
-    assert_eq!(records[0].session.len(), 1116);
+    assert_eq!(records[0].session.len(), 1120);
     assert_eq!(from_bytes(&bytes[..bytes.len() - 1]), None);
 }
 
@@ -59,6 +60,28 @@ fn it_shows_siblings() {
         views.any(|v| v.format != s.textures[v.texture as usize].format)
     });
     assert!(shown.count() > 100);
+}
+
+#[test]
+fn it_shows_sums_around_the_limit() {
+    let (mut over, mut only_aligned, mut later, mut reached) = (0, 0, 0, 0);
+    for record in from_bytes(&committed()).unwrap() {
+        let Ok(session) = read(&record.session) else {
+            continue;
+        };
+        let rows = model::run(&record.session).unwrap();
+        for (pass, row) in session.passes.iter().zip(rows) {
+            let costs = targets(&session, pass).into_iter().map(|(cost, _)| cost);
+            let refused = row.reply.refusal == 51;
+            over += u32::from(refused);
+            only_aligned += u32::from(refused && costs.sum::<u32>() <= session.colour_bytes);
+            later += u32::from(refused && row.reply.place != Some(0));
+            let at_limit = sum(&session, pass) == session.colour_bytes;
+            reached += u32::from(row.reply.refusal == 0 && at_limit);
+        }
+    }
+    let shown = [over, only_aligned, later, reached];
+    assert!(shown.iter().all(|times| *times >= 3), "{shown:?}");
 }
 
 #[test]

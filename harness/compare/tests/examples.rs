@@ -119,13 +119,13 @@ fn each_number_has_an_example_that_ends_with_it() {
 }
 
 #[test]
-fn document_01s_example_has_1116_bytes_and_its_two_lines_strict_or_not() {
+fn document_01s_example_has_1120_bytes_and_its_two_lines_strict_or_not() {
     let first = fs::read(folder().join("first.session")).unwrap();
     let mut strict = text::document_01();
     strict[FLAGS_AT] |= STRICT as u8;
     assert!(first == strict, "the example is strict");
     for bytes in [first, text::document_01()] {
-        assert_eq!(bytes.len(), 1116);
+        assert_eq!(bytes.len(), 1120);
         let lines = "0 0 17 17 4 4 1 0 1\n1 0 17 17 4 4 1 1 0\n";
         assert_eq!(model::deskcheck(&bytes), lines);
         let rust = sessions::reply::deskcheck_lines(&oracle::run(&bytes));

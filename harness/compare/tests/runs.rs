@@ -6,7 +6,7 @@ use compare::reduce::reduce;
 use compare::{compare_file, enumerated_run, numbers_of_files, random_run, Counts};
 use sessions::layout::{HEADER_LEN, LONGEST, TOTAL_AT};
 use sessions::random::{self, Prng};
-use sessions::{damage, reader, text};
+use sessions::{colour_bytes, damage, enumerate, reader, text};
 
 /// Seed and passes of the random run.
 const SEED: u64 = 20_001;
@@ -89,9 +89,29 @@ fn accepted_passes_show_every_kind_of_answer() {
 fn enumerated_passes_do_not_differ() {
     let counts = enumerated_run().unwrap_or_else(|difference| panic!("{difference}"));
     assert!(counts.passes > 38_000, "{counts}");
-    for number in (14..=21).chain(23..=26).chain(30..=32).chain(34..=37) {
+    let numbers = (14..=21).chain(23..=26).chain(30..=32).chain(34..=37);
+    for number in numbers.chain([51]) {
         assert!(counts.of(number) > 0, "number {number}\n{counts}");
     }
+}
+
+#[test]
+fn sums_around_the_limit_are_judged_as_they_are_made() {
+    let mut kinds = [0; 3];
+    for session in enumerate::colour_bytes() {
+        let rows = model::run(&session.to_bytes()).unwrap();
+        for (pass, row) in session.passes.iter().zip(rows) {
+            let over = colour_bytes::sum(&session, pass) > session.colour_bytes;
+            let own = matches!((row.reply.refusal, row.reply.place), (37 | 40, Some(0 | 1)));
+            match row.reply.refusal {
+                51 => assert!(over),
+                _ => assert!(!over || own, "{row}"),
+            }
+            let kind = row.reply.refusal.min(1) + u32::from(row.reply.refusal == 51);
+            kinds[kind as usize] += 1;
+        }
+    }
+    assert!(kinds.iter().all(|count| *count > 800), "{kinds:?}");
 }
 
 #[test]

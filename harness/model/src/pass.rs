@@ -30,7 +30,7 @@ pub fn judge(session: &Session, pass: &Pass, found: &Lists) -> Result<Accepted, 
         Some(at) => Some(check_depth_stencil(session, at)?),
         None => None,
     };
-    let mut seen = Seen::new(session);
+    let mut seen = Seen::new(session, &pass.colours);
     if let Some(at) = &depth_stencil {
         seen.depth_stencil(&at.view)?;
     }

@@ -8,6 +8,7 @@ pub struct Session {
     pub max_colours: u32,
     pub max_views: u32,
     pub flags: u32,
+    pub colour_bytes: u32,
     pub textures: Vec<Texture>,
     pub views: Vec<View>,
     pub passes: Vec<PassRow>,
@@ -128,6 +129,7 @@ pub fn session(bytes: &[u8]) -> Result<Session, u32> {
         (1..=SLOTS as u32).contains(&h(MAX_COLOURS_AT)),
         h(MAX_VIEWS_AT) <= MAX_MULTIVIEW,
         h(FLAGS_AT) <= ALL_FLAGS,
+        (1..=MAX_COLOUR_BYTES).contains(&h(COLOUR_BYTES_AT)),
     ];
     if lawful.contains(&false) {
         return Err(2);
@@ -143,6 +145,7 @@ pub fn session(bytes: &[u8]) -> Result<Session, u32> {
         max_colours: h(MAX_COLOURS_AT),
         max_views: h(MAX_VIEWS_AT),
         flags: h(FLAGS_AT),
+        colour_bytes: h(COLOUR_BYTES_AT),
         textures: Vec::new(),
         views: Vec::new(),
         passes: Vec::new(),

@@ -11,6 +11,8 @@ use crate::verdict::{refuse_after, refuse_if, Check};
 /// What the views so far have settled.
 pub struct Seen<'a> {
     session: &'a Session,
+    /// Whether the colours of the pass are within the limit of bytes per sample.
+    bytes_fit: bool,
     /// Layers of the first view.
     pub layers: Option<u32>,
     /// Width, height and samples of the first view.
@@ -21,10 +23,12 @@ pub struct Seen<'a> {
 }
 
 impl<'a> Seen<'a> {
-    /// Nothing is settled yet.
-    pub fn new(session: &'a Session) -> Self {
+    /// Nothing is settled yet but the bytes of the pass's colours.
+    pub fn new(session: &'a Session, colours: &[Option<Colour>]) -> Self {
+        let bytes = colours.iter().flatten().fold(0, with_colour);
         Seen {
             session,
+            bytes_fit: bytes <= session.colour_bytes,
             layers: None,
             extent: None,
             last: NO_PLACE,
@@ -38,7 +42,7 @@ impl<'a> Seen<'a> {
         self.add(view, DEPTH_STENCIL_PLACE)
     }
 
-    /// 30 to 41 for a slot's view, then its resolve target.
+    /// 30 to 40, 51 and 41 for a slot's view, then its resolve target.
     pub fn colour(&mut self, at: &Colour, place: u32) -> Check {
         let view = &at.view;
         self.multiview(view, place)?;
@@ -49,6 +53,7 @@ impl<'a> Seen<'a> {
             (true, Some(slice)) => refuse_if(slice >= view.mip_depth, 38, place)?,
             (false, slice) => refuse_if(slice.is_some(), 40, place)?,
         }
+        refuse_if(!self.bytes_fit, 51, place)?;
         self.overlap(view, at.slice, place)?;
         match &at.resolve {
             Some(target) => self.resolve(view, target, place),
@@ -120,4 +125,21 @@ fn renderable(view: &View) -> bool {
     view.usage & RENDER_ATTACHMENT != 0
         && [D2, D2_ARRAY, D3].contains(&view.dimension)
         && view.mips.1 - view.mips.0 == 1
+}
+
+/// The bytes of a sample with one colour more: W3C's costs and alignments; a depth-stencil format adds nothing.
+fn with_colour(bytes: u32, at: &Colour) -> u32 {
+    let (cost, alignment) = match at.view.format {
+        1 => (1, 1),
+        2 => (2, 1),
+        3..=6 => (8, 1),
+        7 => (2, 2),
+        8 => (4, 2),
+        9 => (8, 2),
+        10 => (4, 4),
+        12 => (16, 4),
+        11 | 13 | 14 => (8, 4),
+        _ => return bytes,
+    };
+    bytes.next_multiple_of(alignment) + cost
 }

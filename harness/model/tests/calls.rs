@@ -20,7 +20,7 @@ fn example() -> Vec<u8> {
 #[test]
 fn document_01s_example() {
     let bytes = example();
-    assert_eq!(bytes.len(), 1116);
+    assert_eq!(bytes.len(), 1120);
     assert_eq!(
         deskcheck(&bytes),
         "0 0 17 17 4 4 1 0 1\n1 0 17 17 4 4 1 1 0\n"

@@ -17,7 +17,7 @@ pub(crate) fn judge(
     match accept(resources, pass, actions) {
         Ok(reply) => reply,
         Err(error) => {
-            let (number, place, earlier) = number_and_places(&error);
+            let (number, place, earlier) = number_and_places(&error, pass);
             Reply::refused(number, place, Some(earlier))
         }
     }
@@ -30,6 +30,7 @@ fn accept(
     actions: &mut CommandBufferTextureMemoryActions,
 ) -> Result<Reply, RenderPassErrorInner> {
     let device = &resources.device;
+    validation::begin_count();
     let mut desc = ArcRenderPassDescriptor {
         label: &None,
         color_attachments: ArrayVec::new(),
@@ -197,11 +198,14 @@ fn store(number: u32) -> Option<StoreOp> {
 }
 
 /// Document 01's number of an error, the place where the error tells one, and the earlier place.
-fn number_and_places(error: &RenderPassErrorInner) -> (u32, Option<u32>, u32) {
+fn number_and_places(
+    error: &RenderPassErrorInner,
+    pass: &sessions::Pass,
+) -> (u32, Option<u32>, u32) {
     use RenderPassErrorInner as E;
     let located = |number: u32, at: &AttachmentErrorLocation| (number, Some(place(at)), NO_PLACE);
     match error {
-        E::ColorAttachment(e) => (color_number(e), color_place(e), NO_PLACE),
+        E::ColorAttachment(e) => (color_number(e), color_place(e, pass), NO_PLACE),
         E::InvalidAttachment(e) => (channel_number(e), Some(DEPTH_STENCIL_PLACE), NO_PLACE),
         E::MultiViewDimensionMismatch => (30, None, NO_PLACE),
         E::MultiViewMismatch => (31, None, NO_PLACE),
@@ -240,13 +244,26 @@ fn color_number(error: &ColorAttachmentError) -> u32 {
         E::MissingDepthSlice => 39,
         E::UnneededDepthSlice => 40,
         E::SubresourceOverlap { .. } => 41,
-        E::TooManyBytesPerSample { .. } => panic!("the stand-in accepts every sum"),
+        E::TooManyBytesPerSample { .. } => 51,
     }
 }
 
-/// Only the count's error concerns the whole pass; the others do not tell their slot.
-fn color_place(error: &ColorAttachmentError) -> Option<u32> {
-    matches!(error, ColorAttachmentError::TooMany { .. }).then_some(NO_PLACE)
+/// The count's error concerns the whole pass, the sum's the slot that asked for it; the others do not
+/// tell their slot.
+fn color_place(error: &ColorAttachmentError, pass: &sessions::Pass) -> Option<u32> {
+    use ColorAttachmentError as E;
+    match error {
+        E::TooMany { .. } => Some(NO_PLACE),
+        E::TooManyBytesPerSample { .. } => Some(asking_slot(pass)),
+        _ => None,
+    }
+}
+
+/// The slot that asked last for the sum of colour bytes: each filled slot asks once, in order.
+fn asking_slot(pass: &sessions::Pass) -> u32 {
+    let mut filled = (0..pass.colours).filter(|slot| pass.slots[*slot as usize].view != NONE);
+    let slot = filled.nth(validation::asked() - 1);
+    slot.expect("only filled slots ask")
 }
 
 /// The number of an error of the depth-stencil attachment.

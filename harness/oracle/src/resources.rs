@@ -51,7 +51,7 @@ fn device(session: &Session) -> Device {
         limits: Limits {
             max_color_attachments: session.max_colours,
             max_multiview_view_count: session.max_views,
-            max_color_attachment_bytes_per_sample: u32::MAX,
+            max_color_attachment_bytes_per_sample: session.colour_bytes,
         },
         features: Features(
             flag(MULTIVIEW, Features::MULTIVIEW.0)

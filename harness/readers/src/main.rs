@@ -1,5 +1,5 @@
 //! `readers --damaged N --seed S` holds the library's refusal of a session to the harness's own
-//! reader: on the systematic byte strings up to 48 bytes, on files longer than any session, and on
+//! reader: on the systematic short byte strings, on files longer than any session, and on
 //! N damaged sessions. Ends with an error at the first difference.
 
 use std::process::ExitCode;

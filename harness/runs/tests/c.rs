@@ -67,6 +67,7 @@ fn sizes() -> BTreeMap<&'static str, usize> {
         ("PASS_OFFSET_AT", PASS_OFFSET_AT),
         ("TOTAL_AT", TOTAL_AT),
         ("PASS_ENDS_AT", PASS_ENDS_AT),
+        ("MOST_COLOR_BYTES", MAX_COLOUR_BYTES as usize),
         ("MOST_TEXTURES", MAX_TEXTURES as usize),
         ("MOST_VIEWS", MAX_VIEWS as usize),
         ("MOST_PASSES", MAX_PASSES as usize),

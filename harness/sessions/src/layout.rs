@@ -6,7 +6,7 @@
 pub const FIELD_LEN: usize = 4;
 
 /// Fields of the header.
-pub const HEADER_FIELDS: usize = 10;
+pub const HEADER_FIELDS: usize = 11;
 /// Fields of a texture row.
 pub const TEXTURE_FIELDS: usize = 8;
 /// Fields of a view row.
@@ -47,10 +47,11 @@ pub const VIEW_COUNT_AT: usize = 2 * FIELD_LEN;
 pub const VIEW_OFFSET_AT: usize = 3 * FIELD_LEN;
 pub const PASS_COUNT_AT: usize = 4 * FIELD_LEN;
 pub const PASS_OFFSET_AT: usize = 5 * FIELD_LEN;
-/// Where the header has the maxima of colours and of multiview views, and the flags.
+/// Where the header has the maxima of colours and of multiview views, the flags, and the limit of colour bytes.
 pub const MAX_COLOURS_AT: usize = 6 * FIELD_LEN;
 pub const MAX_VIEWS_AT: usize = 7 * FIELD_LEN;
 pub const FLAGS_AT: usize = 8 * FIELD_LEN;
+pub const COLOUR_BYTES_AT: usize = 9 * FIELD_LEN;
 /// Where the header has the total length: its last field.
 pub const TOTAL_AT: usize = HEADER_LEN - FIELD_LEN;
 /// Where a pass row has its ends-buffer field.
@@ -73,6 +74,8 @@ pub const MAX_PASSES: u32 = 100;
 pub const MAX_SURFACES: u32 = 4096;
 /// Greatest maximum of multiview views.
 pub const MAX_MULTIVIEW: u32 = 32;
+/// Greatest limit of colour bytes per sample, which no pass is over.
+pub const MAX_COLOUR_BYTES: u32 = 128;
 /// All header flags.
 pub const ALL_FLAGS: u32 = STRICT | MULTIVIEW | SELECTIVE_MULTIVIEW | READ_ONLY_DEPTH_STENCIL;
 /// Greatest width and height of a texture.

@@ -1,7 +1,8 @@
 //! Session files of document 01: their layout, a reader, a writer, a text form,
 //! and sets of sessions to run: random, enumerated and damaged ones.
-//! Nothing here knows how a pass is judged.
+//! Nothing here judges a pass.
 
+pub mod colour_bytes;
 pub mod command;
 pub mod damage;
 pub mod enumerate;

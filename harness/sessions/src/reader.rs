@@ -36,6 +36,7 @@ fn header_fits(h: &Header) -> bool {
         && (1..=SLOTS as u32).contains(&h.max_colours)
         && h.max_views <= MAX_MULTIVIEW
         && h.flags <= ALL_FLAGS
+        && (1..=MAX_COLOUR_BYTES).contains(&h.colour_bytes)
         && u64::from(h.total) == end
 }
 

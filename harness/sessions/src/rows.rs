@@ -8,6 +8,7 @@ pub struct Session {
     pub max_colours: u32,
     pub max_views: u32,
     pub flags: u32,
+    pub colour_bytes: u32,
     pub textures: Vec<Texture>,
     pub views: Vec<View>,
     pub passes: Vec<Pass>,
@@ -77,7 +78,7 @@ pub struct Pass {
     pub slots: [Slot; SLOTS],
 }
 
-/// The header's ten fields.
+/// The header's fields.
 #[derive(Clone, Copy, Debug, Default, PartialEq, Eq)]
 pub struct Header {
     pub texture_count: u32,
@@ -89,6 +90,7 @@ pub struct Header {
     pub max_colours: u32,
     pub max_views: u32,
     pub flags: u32,
+    pub colour_bytes: u32,
     pub total: u32,
 }
 
@@ -207,7 +209,8 @@ impl Row for Header {
             max_colours: f[6],
             max_views: f[7],
             flags: f[8],
-            total: f[9],
+            colour_bytes: f[9],
+            total: f[10],
         }
     }
 
@@ -222,6 +225,7 @@ impl Row for Header {
             self.max_colours,
             self.max_views,
             self.flags,
+            self.colour_bytes,
             self.total,
         ]
     }
@@ -379,6 +383,7 @@ impl Session {
     pub fn new() -> Self {
         Session {
             max_colours: SLOTS as u32,
+            colour_bytes: MAX_COLOUR_BYTES,
             ..Session::default()
         }
     }
@@ -397,6 +402,7 @@ impl Session {
             max_colours: self.max_colours,
             max_views: self.max_views,
             flags: self.flags,
+            colour_bytes: self.colour_bytes,
             total: (passes_at + self.passes.len() * PASS_LEN) as u32,
         }
     }
@@ -419,6 +425,7 @@ impl Session {
             max_colours: header.max_colours,
             max_views: header.max_views,
             flags: header.flags,
+            colour_bytes: header.colour_bytes,
             textures: rows(bytes, header.texture_offset, header.texture_count)?,
             views: rows(bytes, header.view_offset, header.view_count)?,
             passes: rows(bytes, header.pass_offset, header.pass_count)?,

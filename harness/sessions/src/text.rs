@@ -125,6 +125,7 @@ impl Maker {
         self.session.max_colours = header.max_colours;
         self.session.max_views = header.max_views;
         self.session.flags = header.flags;
+        self.session.colour_bytes = header.colour_bytes;
         Ok(())
     }
 
@@ -427,6 +428,7 @@ fn rows_text(session: &Session) -> String {
         max_colours: session.max_colours,
         max_views: session.max_views,
         flags: session.flags,
+        colour_bytes: session.colour_bytes,
         ..fresh
     };
     let mut text = format!("session{}\n", pairs(&header, &fresh, HEADER_KEYS));

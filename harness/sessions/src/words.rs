@@ -30,11 +30,12 @@ pub const HEADER_KEYS: &[Key] = &[
     Key("max-colours", Words::Number),
     Key("max-views", Words::Number),
     Key("flags", Words::Bits(&FLAG)),
+    Key("colour-bytes", Words::Number),
     Key("total", Words::Number),
 ];
 
 /// The header's fields that a session line sets.
-pub const SETTINGS: Range<usize> = 6..9;
+pub const SETTINGS: Range<usize> = 6..10;
 
 /// A texture row's fields.
 pub const TEXTURE_KEYS: &[Key] = &[

@@ -51,6 +51,10 @@ fn header_fields() {
     assert_eq!(with(|s| s.max_views = MAX_MULTIVIEW + 1), 2);
     assert_eq!(with(|s| s.flags = ALL_FLAGS), 0);
     assert_eq!(with(|s| s.flags = ALL_FLAGS + 1), 2);
+    assert_eq!(with(|s| s.colour_bytes = 0), 2);
+    assert_eq!(with(|s| s.colour_bytes = 1), 0);
+    assert_eq!(with(|s| s.colour_bytes = MAX_COLOUR_BYTES), 0);
+    assert_eq!(with(|s| s.colour_bytes = MAX_COLOUR_BYTES + 1), 2);
     const TEXTURES: usize = MAX_TEXTURES as usize;
     assert_eq!(with(|s| s.textures = vec![PLAIN_TEXTURE; TEXTURES]), 0);
     assert_eq!(with(|s| s.textures = vec![PLAIN_TEXTURE; TEXTURES + 1]), 2);

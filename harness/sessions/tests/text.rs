@@ -1,6 +1,6 @@
 //! The text form: to bytes, and back to the same bytes.
 
-use sessions::layout::{HEADER_FIELDS, HEADER_LEN};
+use sessions::layout::{HEADER_FIELDS, HEADER_LEN, MAX_COLOUR_BYTES};
 use sessions::random::{self, Prng};
 use sessions::rows::Session;
 use sessions::{damage, enumerate, reader, text};
@@ -45,6 +45,20 @@ fn a_format_is_told_where_it_is_not_the_textures() {
     assert!(told(sibling).contains("view format=bgra8unorm-srgb\n"));
     let own = "texture format=bgra8unorm\nview format=bgra8unorm\n";
     assert!(told(own).contains("view\n"));
+}
+
+#[test]
+fn the_limit_of_colour_bytes_is_the_greatest_unless_said() {
+    let limit = |text: &str| {
+        let bytes = text::to_bytes(text).unwrap();
+        (Session::decode(&bytes).unwrap().colour_bytes, bytes)
+    };
+    assert_eq!(limit("texture").0, MAX_COLOUR_BYTES);
+    assert_eq!(limit("session colour-bytes=0").0, 0);
+    let (said, bytes) = limit("session colour-bytes=19");
+    assert_eq!(said, 19);
+    let told = text::from_bytes(&bytes);
+    assert!(told.contains("session colour-bytes=19\n"), "{told}");
 }
 
 #[test]

@@ -13,23 +13,29 @@ returns c =
     let c7 = c6 .before in
     let c8 = c7 .before in
     let c9 = c8 .before in
+    let c10 = c9 .before in
+    let c11 = c10 .before in
     simp (
-      c .then4 .ensures,
-      c .before .then3 .ensures,
-      c .before .before .then2 .ensures,
-      c .before .before .before .then .ensures,
-      c4 .check-attachment-overlap .ensures,
-      c5 .slice-verdict .ensures,
-      c6 .unless .ensures,
-      c7 .is-color .ensures,
-      c8 .add-view .ensures,
-      c9 .check-multiview .ensures,
+      c .then5 .ensures,
+      c .before .then4 .ensures,
+      c .before .before .then3 .ensures,
+      c .before .before .before .then2 .ensures,
+      c4 .then .ensures,
+      c5 .check-attachment-overlap .ensures,
+      c6 .unless2 .ensures,
+      c7 .slice-verdict .ensures,
+      c8 .unless .ensures,
+      c9 .is-color .ensures,
+      c10 .add-view .ensures,
+      c11 .check-multiview .ensures,
     )
 
 pub color-view-spec : {M : Type 1} → statement M
 color-view-spec =
     tie.close
     (tie.spec
+    (λ c κs. search needs)
+    (λ c κs. search needs)
     (λ c κs. search needs)
     (λ c κs. search needs)
     (λ c κs. search needs)

@@ -10,13 +10,13 @@ use Rattle.colors.proofs.slot_steps.Statement.{statement}
 use Rattle.colors.proofs.slot_steps.Tie as tie
 
 abbrev Inv-loop : tie.InvT-loop
-Inv-loop s pass n slots b₀ k₀ b k = (b ≡ slotSteps (session s) (session s .pass pass) b₀ k) × (k ≤ slots)
+Inv-loop s pass fit n slots b₀ k₀ b k = (b ≡ slotSteps (session s) (session s .pass pass) fit b₀ k) × (k ≤ slots)
 
 abbrev μ-loop : tie.MeasureT-loop
-μ-loop s pass n slots b₀ k₀ b k = slots - k
+μ-loop s pass fit n slots b₀ k₀ b k = slots - k
 
 loop-holds : tie.Need-loop-holds Inv-loop μ-loop
-loop-holds c = (sym (steps-none _ _ _), omega arith)
+loop-holds c = (sym (steps-none _ _ _ _), omega arith)
 
 next-slot-requires : tie.Need-next-slot-requires Inv-loop μ-loop
 next-slot-requires c κs = omega (arith, c .before .before .slots-of .ensures .1)

@@ -8,7 +8,7 @@ use checks::words::{only, value};
 use sessions::command::{arguments, end};
 
 /// Seed of the committed list.
-const SEED: u64 = 9_004;
+const SEED: u64 = 9_019;
 /// Sessions of the committed list.
 const SESSIONS: usize = 510;
 

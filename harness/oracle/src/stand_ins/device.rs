@@ -20,7 +20,7 @@ pub struct MissingDownlevelFlags;
 #[derive(Clone, Debug)]
 pub struct RenderPassCompatibilityError;
 
-/// Limits of the header, and one that document 01 leaves out.
+/// Limits of the header.
 pub struct Limits {
     pub max_color_attachments: u32,
     pub max_multiview_view_count: u32,

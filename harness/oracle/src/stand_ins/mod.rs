@@ -7,6 +7,7 @@ pub mod device;
 pub mod hal;
 pub mod init_tracker;
 pub mod resource;
+pub mod validation;
 pub mod wgt;
 
 /// Labels are left out of every comparison.
@@ -105,18 +106,5 @@ pub mod track {
     pub struct UsageScope<'a> {
         pub textures: TextureUsageScope,
         pub lifetime: std::marker::PhantomData<&'a TextureView>,
-    }
-}
-
-/// Validation that the files lack.
-pub mod validation {
-    use super::wgt::TextureFormat;
-
-    /// Document 01 leaves this function out: it accepts. Its error type is the caller's.
-    pub fn validate_color_attachment_bytes_per_sample<E>(
-        _formats: impl Iterator<Item = TextureFormat>,
-        _limit: u32,
-    ) -> Result<(), E> {
-        Ok(())
     }
 }

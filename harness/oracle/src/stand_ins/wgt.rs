@@ -154,6 +154,34 @@ impl TextureFormat {
         (aspect == TextureAspect::StencilOnly && self.has_stencil_aspect())
             .then_some(Self::Stencil8)
     }
+
+    /// Bytes of a pixel as a render target, by document 02; none for a format that is no colour.
+    pub fn target_pixel_byte_cost(self) -> Option<u32> {
+        let Self::Color(number) = self else {
+            return None;
+        };
+        match number {
+            1 => Some(1),
+            2 | 7 => Some(2),
+            8 | 10 => Some(4),
+            3..=6 | 9 | 11 | 13 | 14 => Some(8),
+            12 => Some(16),
+            _ => None,
+        }
+    }
+
+    /// Alignment of a component as a render target, by document 02; none for a format that is no colour.
+    pub fn target_component_alignment(self) -> Option<u32> {
+        let Self::Color(number) = self else {
+            return None;
+        };
+        match number {
+            1..=6 => Some(1),
+            7..=9 => Some(2),
+            10..=14 => Some(4),
+            _ => None,
+        }
+    }
 }
 
 /// The dimension of a texture.

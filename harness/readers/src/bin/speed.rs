@@ -110,6 +110,7 @@ fn refusal(s: &[u8]) -> u32 {
         && (1..=SLOTS as u32).contains(&u32_at(s, MAX_COLOURS_AT))
         && u32_at(s, MAX_VIEWS_AT) <= MAX_MULTIVIEW
         && u32_at(s, FLAGS_AT) <= ALL_FLAGS
+        && (1..=MAX_COLOUR_BYTES).contains(&u32_at(s, COLOUR_BYTES_AT))
         && pass_start + PASS_LEN * passes as usize == s.len();
     if !right {
         return 2;
