@@ -1,10 +1,11 @@
-//! The files of `examples/`, and the table of `docs/REFUSALS.md`.
+//! The files of `examples/`, and tables of `docs/`.
 
 use std::collections::BTreeSet;
 use std::fs;
 use std::path::{Path, PathBuf};
 
 pub use compare::examples::{files, name as stem};
+use sessions::names::FORMAT;
 
 /// A file or folder of the repository.
 pub fn repository(path: &str) -> PathBuf {
@@ -49,6 +50,14 @@ pub fn quoted(text: &str) -> BTreeSet<String> {
         .lines()
         .flat_map(|line| line.split('`').skip(1).step_by(2));
     words.map(str::to_string).collect()
+}
+
+/// The number and the name of each format whose number is asked for, in document 01's order.
+pub fn formats(asked: fn(u32) -> bool) -> Vec<(String, String)> {
+    let words = FORMAT.words.iter().filter(|(number, _)| asked(*number));
+    words
+        .map(|(n, name)| (n.to_string(), name.to_string()))
+        .collect()
 }
 
 /// A row of the table of refusals.

@@ -3,7 +3,7 @@
 
 use std::fs;
 
-use checks::examples::{cells, repository};
+use checks::examples::{cells, formats, repository};
 use sessions::names::FORMAT;
 use sessions::text;
 
@@ -51,12 +51,10 @@ fn told(format: &str) -> u32 {
 fn the_rows_are_the_formats_from_20_on_and_one_for_all_others() {
     let rows = written();
     let (other, listed) = rows.split_last().unwrap();
-    let names: Vec<(u32, &str)> = listed
+    let rows = listed
         .iter()
-        .map(|row| (row.number.parse().unwrap(), row.format.as_str()))
-        .collect();
-    let from_20 = FORMAT.words.iter().filter(|(number, _)| *number >= 20);
-    assert!(names.iter().eq(from_20), "{names:?}");
+        .map(|row| (row.number.clone(), row.format.clone()));
+    assert_eq!(rows.collect::<Vec<_>>(), formats(|number| number >= 20));
     assert_eq!(other.format, "any other");
 }
 

@@ -3,8 +3,7 @@
 
 use std::fs;
 
-use checks::examples::{cells, repository};
-use sessions::names::FORMAT;
+use checks::examples::{cells, formats, repository};
 use sessions::text;
 
 /// A row: the format in W3C's words, its number, its cost and alignment, and the sum after one byte.
@@ -51,12 +50,10 @@ fn told(limit: u32, formats: &[&str]) -> u32 {
 fn the_rows_are_the_formats_below_20_and_one_for_all_others() {
     let rows = written();
     let (other, listed) = rows.split_last().unwrap();
-    let names: Vec<(u32, &str)> = listed
+    let rows = listed
         .iter()
-        .map(|row| (row.number.parse().unwrap(), row.format.as_str()))
-        .collect();
-    let below_20 = FORMAT.words.iter().filter(|(number, _)| *number < 20);
-    assert!(names.iter().eq(below_20), "{names:?}");
+        .map(|row| (row.number.clone(), row.format.clone()));
+    assert_eq!(rows.collect::<Vec<_>>(), formats(|number| number < 20));
     assert!(other.format.starts_with("any other"));
 }
 
@@ -79,8 +76,8 @@ fn each_sum_is_accepted_at_its_limit_and_refused_below_it() {
 fn a_format_that_is_no_colours_adds_nothing() {
     let other = written().pop().unwrap();
     assert_eq!((other.cost, other.alignment, other.after_one), (0, 1, 1));
-    for (_, name) in FORMAT.words.iter().filter(|(number, _)| *number >= 20) {
-        assert_eq!(told(1, &["r8unorm", name]), 37, "{name}");
+    for (_, name) in formats(|number| number >= 20) {
+        assert_eq!(told(1, &["r8unorm", &name]), 37, "{name}");
     }
 }
 
