@@ -4,7 +4,7 @@
  *
  * Link target/staticlib/libdesk.a, which `rt staticlib desk` writes (x86-64 Linux). Beside it the
  * library needs memcpy and memset, as every C library has them, and nothing else. It allocates nothing,
- * has no variables that outlive a call and prints nothing. It exports the four functions below, each
+ * has no variables that outlive a call and prints nothing. It exports the five functions below, each
  * proved against its contract in crates/desk.
  *
  * What holds of every function:
@@ -18,10 +18,11 @@
  * - Calls may run on several threads at once, unless one of them writes what another is handed. Two
  *   threads may read one session.
  * - DESKCHECK_STACK_LEN bytes of stack are enough. Measured on x86-64, with a caller's frame that has
- *   room for a reply: about 19 KiB for deskcheck_session, 15 for deskcheck_submit, 10 for
- *   deskcheck_pass, 1.4 for deskcheck_session_refusal.
+ *   room for a reply: about 21 KiB for deskcheck_session, 11 for deskcheck_pass, 2.3 for
+ *   deskcheck_submit, 1.6 for deskcheck_surface_index, 1.4 for deskcheck_session_refusal.
  *
- * harness/c/calls.c tries the last two and NULL, and prints the bytes of stack of each function.
+ * harness/c/calls.c tries the last two, NULL and the indices of surfaces, and prints the bytes of stack
+ * of each function.
  * harness/c/example.c is a whole program.
  */
 #ifndef DESKCHECK_H
@@ -44,7 +45,7 @@ extern "C" {
  *
  * Texture, 32 bytes: format, dimension (1 to 3), width, height (1 to 16384), depth or layers (1 to 32),
  * mips (1 to 15), samples (1, 2, 4, 8, 16), usage (4 texture binding, 16 render attachment,
- * 32 transient; 0 to 63). A 3D texture has one layer, whatever its depth.
+ * 32 transient; 0 to 63). A 3D texture has one layer; mip m of depth d has max(1, d >> m) slices.
  * Formats: 1 r8unorm, 2 rg8unorm, 3 rgba8unorm, 4 rgba8unorm-srgb, 5 bgra8unorm, 6 bgra8unorm-srgb,
  * 7 r16float, 8 rg16float, 9 rgba16float, 10 r32float, 11 rg32float, 12 rgba32float, 13 rgb10a2unorm,
  * 14 rg11b10ufloat, 20 stencil8, 21 depth16unorm, 22 depth24plus, 23 depth24plus-stencil8,
@@ -100,7 +101,7 @@ extern "C" {
  *  5  a pass field, or no such pass                 33  more layers than the maximum
  *  6  a lent buffer too short (first of all), or    34  not renderable
  *     after 4 a lent count, record or status byte   35  width or height differs
- *     out of range                                  36  samples differ
+ *     out of range, or no such surface              36  samples differ
  * 10  too many colours                              37  colour slot, no colour format
  * 11  colour DontCare, strict                       38  slice at or past the mip's depth
  * 12  transient colour, not (Clear or DontCare)     39  D3 without slice
@@ -128,15 +129,26 @@ extern "C" {
 /*
  * What a caller lends
  *
- *  discards  count (0 to 64), then 64 records: texture, mip, layer
+ *  discards  count (0 to 64), then 64 records: texture, mip, layer, slice
  *  actions   count (0 to 512), then 512 records: texture, first mip, mips, first layer, layers,
- *            kind (0 implicit: the buffer fills the surfaces itself; 1 needing: they must be filled)
- *  clears    count (0 to 80), then 80 records: texture, mip, layer
- *  status    a byte a surface, by texture, mip, layer: 1 filled, plus 2 if the last submission
- *            cleared it
+ *            kind (0 implicit: the buffer fills the surfaces itself; 1 needing: they must be filled),
+ *            slice
+ *  clears    count (0 to 80), then 80 records: texture, mip, layer, slice
+ *  status    a byte a surface, by texture, mip, slice or layer: 1 filled, plus 2 if the last
+ *            submission cleared it
  *
- * The status bytes of a texture follow those of the textures before it, a byte for each mip and layer.
- * A 3D texture has one layer: behind one of depth 4 and one mip the next texture starts at byte 1.
+ * A surface is a texture, a mip and a layer; of a 3D texture a texture, a mip and a slice. The layer of a
+ * 3D texture and the slice of another are 0. An action is about its slice in each of its mips, and so
+ * its slice is below the depth of its last mip.
+ *
+ * With L layers (1 of a 3D texture) and S(m) slices of mip m (max(1, depth >> m) of a 3D texture, else 1),
+ * the byte of a surface has the index
+ *
+ *   surfaces of the textures before it + L * (S(0) + S(1) + .. + S(mip - 1)) + L * slice + layer
+ *
+ * and a texture of n mips has L * (S(0) + .. + S(n - 1)) surfaces. A 3D texture of depth 5 and three mips
+ * has 5 + 2 + 1 = 8: slice 1 of mip 1 is byte 6, and the next texture starts at byte 8.
+ * deskcheck_surface_index tells the index.
  *
  * A fresh session has counts 0 and status 0; records past a count may hold anything. Every buffer has
  * at least the length below: a shorter one is refused as 6, the further bytes of a longer one are
@@ -144,8 +156,8 @@ extern "C" {
  * From fresh lists, handed on from call to call of one session, 6 never arises.
  */
 #define DESKCHECK_COUNT_LEN 4
-#define DESKCHECK_SURFACE_LEN 12
-#define DESKCHECK_ACTION_LEN 24
+#define DESKCHECK_SURFACE_LEN 16
+#define DESKCHECK_ACTION_LEN 28
 #define DESKCHECK_MOST_DISCARDS 64
 #define DESKCHECK_MOST_ACTIONS 512
 #define DESKCHECK_MOST_CLEARS 80
@@ -168,15 +180,16 @@ extern "C" {
  * No unwritten or discarded memory becomes visible (docs/THEOREM.md) in a run of deskcheck_pass and
  * deskcheck_submit, in any order, accepted or refused, where
  *
- * - the session is readable (deskcheck_session_refusal answers 0) and strict (flag 1), every view has
- *   one layer, and no texture is 3D;
+ * - the session is readable (deskcheck_session_refusal answers 0) and strict (flag 1), and every view has
+ *   one layer;
  * - the buffers of the first call are fresh: long enough, counts 0, and status byte 0 for each surface of
  *   the session (what stands behind the last surface's byte may be anything);
  * - every call is handed that session, and each call after the first the buffers as the call before it
  *   left them;
  * - the box does what it is told: at a submission it zeroes each surface whose status byte then has 2,
  *   and runs the passes accepted since the submission before, in order. Each pass zeroes its reply's
- *   clears first, and its divergent aspect afterwards.
+ *   clears first, and its divergent aspect afterwards. A D3 attachment is one slice, which the pass row
+ *   names.
  */
 
 /* A colour clear value. A NaN comes back as the canonical one, every other number bit for bit. */
@@ -207,6 +220,12 @@ struct deskcheck_reply {
     uint32_t count;                  /* attachments */
     /* Depth-stencil, then each colour with its resolve target behind it; zeros past the count. */
     struct deskcheck_attachment attachments[DESKCHECK_MOST_ATTACHMENTS];
+};
+
+/* Where a surface has its status byte. */
+struct deskcheck_index {
+    uint32_t number; /* 0, or 1 to 4, or 6 */
+    uint32_t index;  /* 0 where the number is not */
 };
 
 /* The session's refusal: 0, or 1 to 4. */
@@ -242,6 +261,14 @@ uint32_t deskcheck_submit(const uint8_t *session, size_t session_len,
  */
 uint32_t deskcheck_session(const uint8_t *session, size_t session_len,
                            uint8_t *rows, size_t rows_len);
+
+/*
+ * The index of a surface's byte among the status bytes, with number 0. The number is the session's
+ * refusal, 1 to 4, or 6 for a surface that the session does not have.
+ */
+struct deskcheck_index deskcheck_surface_index(const uint8_t *session, size_t session_len,
+                                               uint32_t texture, uint32_t mip, uint32_t layer,
+                                               uint32_t slice);
 
 #ifdef __cplusplus
 }

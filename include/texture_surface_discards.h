@@ -15,20 +15,22 @@
 extern "C" {
 #endif
 
-/* A surface whose content is discarded. */
+/* A surface whose content is discarded. The slice is 0 where the texture is not 3D. */
 typedef struct {
     uint32_t texture;
     uint32_t mip;
     uint32_t layer;
+    uint32_t slice;
 } deskcheck_surface;
 
-/* So many mips and layers of a texture, from the first of each on. */
+/* So many mips and layers of a texture, from the first of each on, all of one slice. */
 typedef struct {
     uint32_t texture;
     uint32_t mip;
     uint32_t mips;
     uint32_t layer;
     uint32_t layers;
+    uint32_t slice;
 } deskcheck_range;
 
 /* Puts a discard after the first n: n + 1. Without room for it, n, and every record stays. */

@@ -1,7 +1,7 @@
 /*
  * calls FILE.. tries what deskcheck.h says of every call, on session files: a pointer of length 0 may be NULL, calls on different
- * buffers may run at the same time, and DESKCHECK_STACK_LEN bytes of stack are enough. Prints a line for each, with the stack that
- * each function takes. Ends with 1 where something is not as the header says.
+ * buffers may run at the same time, surfaces have the indices that the header counts, and DESKCHECK_STACK_LEN bytes of stack are
+ * enough. Prints a line for each, with the stack that each function takes. Ends with 1 where something is not as the header says.
  */
 #define _POSIX_C_SOURCE 200809L
 #include <pthread.h>
@@ -77,6 +77,12 @@ static uint32_t submit(const struct file *f, struct lists *l)
                             l->clears, sizeof l->clears, l->status, sizeof l->status);
 }
 
+/* The index of a surface. */
+static struct deskcheck_index place(const struct file *f, uint32_t texture, uint32_t mip, uint32_t layer, uint32_t slice)
+{
+    return deskcheck_surface_index(f->bytes, f->length, texture, mip, layer, slice);
+}
+
 /* ---- NULL with length 0 */
 
 /* Both calls on lent lists with the parts of `none` NULL and of length 0: bit 0 the session, then discards, actions, clears, status. */
@@ -107,8 +113,66 @@ static int nulls(const struct file *f)
     right &= deskcheck_session(NULL, 0, rows, sizeof rows) == 1;
     right &= deskcheck_session(f->bytes, f->length, NULL, 0) == 6;
     right &= deskcheck_session(NULL, 0, NULL, 0) == 6;
+    right &= deskcheck_surface_index(NULL, 0, 0, 0, 0, 0).number == 1;
     for (unsigned none = 1; none < 32; none++)
         right &= null_answers(f, none, none == 1 ? 1 : 6);
+    return right;
+}
+
+/* ---- the index of a surface */
+
+/* Where a texture row has its dimension, its depth or layers, and its mips. */
+enum { DIMENSION_AT = 4, DEPTH_AT = 16, MIPS_AT = 20 };
+
+/* A field of a texture row. */
+static uint32_t texture_field(const struct file *f, uint32_t texture, size_t at)
+{
+    return number_at(f->bytes + DESKCHECK_HEADER_LEN + (size_t)texture * DESKCHECK_TEXTURE_LEN + at);
+}
+
+/* Whether a surface has this number and index. */
+static int told_as(struct deskcheck_index got, uint32_t number, uint32_t index)
+{
+    return got.number == number && got.index == index;
+}
+
+/* The surfaces of a mip have the next indices, slice by slice and layer by layer; behind them there is none. */
+static int indices_of_mip(const struct file *f, uint32_t texture, uint32_t mip, uint32_t *next)
+{
+    uint32_t depth = texture_field(f, texture, DEPTH_AT);
+    int volume = texture_field(f, texture, DIMENSION_AT) == 3;
+    uint32_t layers = volume ? 1 : depth, slices = volume && depth >> mip ? depth >> mip : 1;
+    int right = 1;
+    for (uint32_t slice = 0; slice < slices; slice++)
+        for (uint32_t layer = 0; layer < layers; layer++)
+            right &= told_as(place(f, texture, mip, layer, slice), 0, (*next)++);
+    right &= told_as(place(f, texture, mip, layers, 0), 6, 0);
+    return right & told_as(place(f, texture, mip, 0, slices), 6, 0);
+}
+
+/* The same of every texture of a file; a refused one has its refusal for an answer. */
+static int indices(const struct file *f)
+{
+    uint32_t refusal = deskcheck_session_refusal(f->bytes, f->length);
+    if (refusal)
+        return told_as(place(f, 0, 0, 0, 0), refusal, 0);
+    uint32_t textures = number_at(f->bytes), next = 0;
+    int right = told_as(place(f, textures, 0, 0, 0), 6, 0);
+    for (uint32_t texture = 0; texture < textures; texture++) {
+        uint32_t mips = texture_field(f, texture, MIPS_AT);
+        for (uint32_t mip = 0; mip < mips; mip++)
+            right &= indices_of_mip(f, texture, mip, &next);
+        right &= told_as(place(f, texture, mips, 0, 0), 6, 0);
+    }
+    return right && next <= DESKCHECK_MOST_SURFACES;
+}
+
+/* The same of every file. */
+static int all_indices(void)
+{
+    int right = 1;
+    for (int i = 0; i < file_count; i++)
+        right &= indices(&files[i]);
     return right;
 }
 
@@ -131,6 +195,10 @@ static uint64_t answers(const struct file *f, struct lists *l, uint8_t *rows)
     uint32_t passes = passes_of(f);
     uint32_t whole = deskcheck_session(f->bytes, f->length, rows, DESKCHECK_ROWS_LEN);
     uint64_t sum = added(added(UINT64_C(0xcbf29ce484222325), &whole, sizeof whole), rows, DESKCHECK_ROWS_LEN);
+    for (uint32_t slice = 0; slice < 2; slice++) {
+        struct deskcheck_index index = place(f, 0, 0, 0, slice);
+        sum = added(sum, &index, sizeof index);
+    }
     for (uint32_t pass = 0; pass < passes; pass++) {
         struct deskcheck_reply reply = check(f, pass, l);
         sum = added(added(sum, &reply, offsetof(struct deskcheck_reply, count) + sizeof reply.count), l, sizeof *l);
@@ -190,8 +258,9 @@ static int threads(void)
 
 /* The painted stack, what each function took of it, and what is lent to the measured calls. */
 static _Alignas(64) uint8_t stack[ROOM];
-static const char *const names[] = {"refusal", "pass", "submit", "session"};
-static size_t taken[4];
+enum { FUNCTIONS = 5 };
+static const char *const names[FUNCTIONS] = {"refusal", "pass", "submit", "session", "index"};
+static size_t taken[FUNCTIONS];
 static struct lists lent;
 static uint8_t lent_rows[DESKCHECK_ROWS_LEN];
 
@@ -210,8 +279,11 @@ static void call(int function, const struct file *f, uint32_t pass)
     case 2:
         submit(f, &lent);
         break;
-    default:
+    case 3:
         deskcheck_session(f->bytes, f->length, lent_rows, sizeof lent_rows);
+        break;
+    default:
+        place(f, 0, 0, 0, 0);
     }
 }
 
@@ -241,6 +313,7 @@ static void *measure_all(void *nothing)
         memset(&lent, 0, sizeof lent);
         measure(0, f, 0);
         measure(3, f, 0);
+        measure(4, f, 0);
         for (uint32_t pass = 0; pass < passes; pass++) {
             measure(1, f, pass);
             if (ends_buffer(f, pass, passes))
@@ -261,7 +334,7 @@ static int stacks(void)
     pthread_join(thread, NULL);
     int right = 1;
     printf("stack, bytes:");
-    for (int i = 0; i < 4; i++) {
+    for (int i = 0; i < FUNCTIONS; i++) {
         printf(" %s %zu", names[i], taken[i]);
         right &= taken[i] > 0 && taken[i] <= DESKCHECK_STACK_LEN;
     }
@@ -288,6 +361,7 @@ int main(int count, char **words)
         return 2;
     }
     int right = told("NULL of length 0", nulls(&files[0]));
+    right &= told("index of a surface", all_indices());
     right &= told("two threads", threads());
     right &= told("stack", stacks());
     return right ? 0 : 1;

@@ -1,7 +1,7 @@
 /*
  * example FILE loads a session file, checks it pass by pass on fresh lists, submits each buffer at its
- * end, and prints the lines that `deskcheck` prints. It then checks the whole session in one call and
- * sees that the rows are the same.
+ * end, and prints the lines that `deskcheck` prints. It sees that the status byte of each discarded
+ * surface then says empty, and that the whole session in one call has the same rows.
  */
 #include <stdio.h>
 #include <stdlib.h>
@@ -60,6 +60,25 @@ static int same_row(uint32_t pass, const uint32_t *numbers)
     return 1;
 }
 
+/* Whether the status byte of the surface of a record says that it is empty. */
+static int empty(const uint8_t *session, size_t length, const uint8_t *record)
+{
+    struct deskcheck_index at = deskcheck_surface_index(session, length, number_at(record), number_at(record + 4),
+                                                        number_at(record + 8), number_at(record + 12));
+    return at.number == 0 && (status[at.index] & 1) == 0;
+}
+
+/* Submits the buffer. Its discards are then empty surfaces; their records still stand behind the count. */
+static int submit(const uint8_t *session, size_t length)
+{
+    uint32_t discarded = number_at(discards);
+    int right = deskcheck_submit(session, length, discards, sizeof discards, actions, sizeof actions,
+                                 clears, sizeof clears, status, sizeof status) == 0;
+    for (uint32_t i = 0; i < discarded; i++)
+        right &= empty(session, length, discards + DESKCHECK_COUNT_LEN + i * DESKCHECK_SURFACE_LEN);
+    return right;
+}
+
 /* Checks one pass, prints its line, and submits where its buffer ends. 0 where something is wrong. */
 static int check_pass(const uint8_t *session, size_t length, uint32_t pass, uint32_t passes)
 {
@@ -70,11 +89,8 @@ static int check_pass(const uint8_t *session, size_t length, uint32_t pass, uint
                                                   r.height, r.samples, r.clears, number_at(discards)};
     for (int i = 0; i < DESKCHECK_ROW_NUMBERS; i++)
         printf("%u%c", (unsigned)line[i], i + 1 == DESKCHECK_ROW_NUMBERS ? '\n' : ' ');
-    if (ends_buffer(session, pass, passes)
-        && deskcheck_submit(session, length, discards, sizeof discards, actions, sizeof actions,
-                            clears, sizeof clears, status, sizeof status) != 0)
-        return 0;
-    return same_row(pass, line);
+    int submitted = !ends_buffer(session, pass, passes) || submit(session, length);
+    return submitted && same_row(pass, line);
 }
 
 int main(int count, char **words)
@@ -96,6 +112,6 @@ int main(int count, char **words)
     }
     free(session);
     if (!right)
-        fprintf(stderr, "the calls and the whole session differ\n");
+        fprintf(stderr, "the calls, the status bytes and the whole session do not agree\n");
     return right ? 0 : 1;
 }

@@ -1,7 +1,7 @@
 /*
- * A target for libFuzzer over the four C functions, linked with the proved library. An input is eight control bytes and
- * a session: they shorten a buffer by a byte or change a count, a record or a status byte before some pass. Checked after
- * every call: the guard bytes around each buffer are as they were, and a refusal left every byte.
+ * A target for libFuzzer over the five C functions, linked with the proved library. An input is eight control bytes and
+ * a session: they shorten a buffer by a byte or change a count, a record or a status byte before some pass, and name a
+ * surface. Checked after every call: the guard bytes around each buffer are as they were, and a refusal left every byte.
  * The library is not instrumented, so that what the functions answer stands in for coverage: each new pair of number and
  * place, and each new size of a list, is told to the fuzzer as a counter of its own.
  */
@@ -10,7 +10,7 @@
 
 #include "deskcheck.h"
 
-enum { GUARD = 64, CONTROL = 8, MOST_PASSES = 6, SIZES = 16, COUNTERS = 4096 };
+enum { GUARD = 64, CONTROL = 8, MOST_PASSES = 6, SIZES = 16, FUNCTIONS = 4, COUNTERS = 5 * 64 * SIZES };
 
 __attribute__((section("__libfuzzer_extra_counters"))) static volatile uint8_t counters[COUNTERS];
 
@@ -87,7 +87,7 @@ static void tell_length(uint32_t list, uint32_t length)
         size++;
         length >>= 1;
     }
-    counters[3 * 64 * SIZES + list * SIZES + size % SIZES] = 1;
+    counters[FUNCTIONS * 64 * SIZES + list * SIZES + size % SIZES] = 1;
 }
 
 static uint32_t submit(const uint8_t *session, size_t length)
@@ -113,6 +113,18 @@ static void check(const uint8_t *session, size_t length, uint32_t pass)
     tell_length(0, number_at(start(&discards)));
     tell_length(1, number_at(start(&actions)));
     tell_length(2, reply.clears);
+}
+
+/* The index of the surface that a control byte names: the session's refusal, or no surface, or a place among the bytes. */
+static void place(const uint8_t *session, size_t length, uint8_t control, uint32_t refusal)
+{
+    uint32_t texture = control & 3, mip = control >> 2 & 3, layer = control >> 4 & 1, slice = control >> 5;
+    struct deskcheck_index at = deskcheck_surface_index(session, length, texture, mip, layer, slice);
+    if (at.number != (refusal ? refusal : at.number ? 6 : 0) || at.index >= DESKCHECK_MOST_SURFACES)
+        abort();
+    if (at.number && at.index)
+        abort();
+    tell(3, at.number, at.index);
 }
 
 /* Changes a byte of what is lent, as the control bytes say. */
@@ -141,6 +153,7 @@ int LLVMFuzzerTestOneInput(const uint8_t *data, size_t size)
     uint32_t whole = deskcheck_session(session, length, start(&rows), rows.length);
     hold(&rows, whole);
     tell(2, whole, refusal);
+    place(session, length, data[7], refusal);
     uint32_t passes = refusal ? 1 : number_at(session + DESKCHECK_PASS_COUNT_AT);
     for (uint32_t pass = 0; pass <= passes && pass < MOST_PASSES; pass++) {
         if (pass == data[1])

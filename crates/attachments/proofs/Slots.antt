@@ -2,7 +2,7 @@
 use mathlib.Core.Path.{_≡_}
 use mathlib.Core.Bool.{true, false}
 use mathlib.Core.List.{List, [], _∷_}
-use Rattle.definition.specs.Session.{Session, isNone, viewRange}
+use Rattle.definition.specs.Session.{Session, isNone, sliceRange}
 use Rattle.definition.specs.MemoryInit.{Lists, applyPlan}
 use Rattle.definition.specs.Attachments.{Attached, attach, resolveTo, colorOf, resolvePart, slotPart}
 use Rattle.definition.specs.declared.Slot.{Slot}
@@ -24,7 +24,7 @@ unfolding slotPart resolvePart
 slot-alone S c e f = simp (e, f)
 
 pub slot-resolving : (S : Session) (c : Slot) → isNone (c .view) ≡ false → isNone (c .resolve) ≡ false
-    → slotPart S c ≡ colorOf S c ∷ resolveTo (c .resolve) (viewRange (S .view (c .resolve))) ∷ []
+    → slotPart S c ≡ colorOf S c ∷ resolveTo (c .resolve) (sliceRange (S .view (c .resolve)) 0) ∷ []
 unfolding slotPart resolvePart
 slot-resolving S c e f = simp (e, f)
 

@@ -24,6 +24,7 @@ use session::depth;
 use session::depth_stencil;
 use session::derived::is_none;
 use session::derived::read_only_depth_stencil;
+use session::derived::slice_range;
 use session::derived::strict;
 use session::derived::texture_binding;
 use session::derived::view_range;
@@ -170,6 +171,7 @@ fn no_depth_stencil() -> DepthStencilPart
                 mips: 0,
                 layer: 0,
                 layers: 0,
+                slice: 0,
             },
             kind: InitKind::None,
             discards: false,
@@ -210,7 +212,7 @@ pub fn color_planned(s: &[u8], c: Slot) -> Planned
     let plan = color_plan(ops_of(c));
     let kind = plan.kind;
     Planned {
-        range: view_range(view(s, c.view)),
+        range: slice_range(view(s, c.view), c.slice),
         kind: kind,
         discards: plan.discards,
     }
@@ -218,12 +220,12 @@ pub fn color_planned(s: &[u8], c: Slot) -> Planned
 
 // What a resolve target does to the lists.
 pub fn resolve_planned(s: &[u8], target: u32) -> Planned
-    ensures { λ r. ⌜ PlannedAs r (At.resolveTo target (Se.viewRange (session (now (s .entry)) .view target))) ⌝ }
+    ensures { λ r. ⌜ PlannedAs r (At.resolveTo target (Se.sliceRange (session (now (s .entry)) .view target) 0)) ⌝ }
 {
     let plan = resolve_plan();
     let kind = plan.kind;
     Planned {
-        range: view_range(view(s, target)),
+        range: slice_range(view(s, target), 0),
         kind: kind,
         discards: plan.discards,
     }

@@ -5,7 +5,7 @@ use mathlib.Core.Option.{Option, none, some}
 use Prim.Native.Nat.{ℕ, zero, suc}
 use lib.Ieee.{Float}
 use Rattle.definition.specs.Formats.{hasDepth, hasStencil}
-use Rattle.definition.specs.Session.{Pass, Session, isNone, strict, formatOf, viewRange}
+use Rattle.definition.specs.Session.{Pass, Session, isNone, strict, formatOf, sliceRange, viewRange}
 use Rattle.definition.specs.Channel.{Ops, operational, keepOf, depthResolved, stencilResolved, resolvedOps, loads, sameLoad}
 use Rattle.definition.specs.Check.{slotLoad}
 use Rattle.definition.specs.MemoryInit.{Lists, applyPlan}
@@ -38,10 +38,10 @@ unfoldable pub depthStencilPart : Session → Pass → List Attached
 depthStencilPart S p = cond (isNone (p .depthStencil)) [] (depthStencilOf S p (S .view (p .depthStencil)) ∷ [])
 
 unfoldable pub resolvePart : Session → Slot → List Attached
-resolvePart S c = cond (isNone (c .resolve)) [] (resolveTo (c .resolve) (viewRange (S .view (c .resolve))) ∷ [])
+resolvePart S c = cond (isNone (c .resolve)) [] (resolveTo (c .resolve) (sliceRange (S .view (c .resolve)) 0) ∷ [])
 
 abbrev pub colorOf : Session → Slot → Attached
-colorOf S c = color (c .view) (viewRange (S .view (c .view))) (operational (slotLoad c) (keepOf (c .store)))
+colorOf S c = color (c .view) (sliceRange (S .view (c .view)) (c .slice)) (operational (slotLoad c) (keepOf (c .store)))
 
 unfoldable pub slotPart : Session → Slot → List Attached
 slotPart S c = cond (isNone (c .view)) [] (colorOf S c ∷ resolvePart S c)

@@ -1,11 +1,11 @@
 -- The calls: pass checks and submissions, each given what the one before left; number 6 of what is lent.
-use Prim.Native.Nat.{ℕ, zero, suc, _+_}
+use Prim.Native.Nat.{ℕ, zero, suc, _+_, _-_}
 use mathlib.Core.List.{List, [], _∷_}
 use mathlib.Core.Bool.{Bool, true, false, _&&_, cond}
 use lib.ListN.{length, replicate}
 use lib.Dec.{leb, ltb}
 use Rattle.definition.specs.Sizes.{maxSurfaces, maxDiscards, maxActions, maxClears}
-use Rattle.definition.specs.Session.{Session, arrayLayers, surfaceCount, surfacesOf}
+use Rattle.definition.specs.Session.{Session, arrayLayers, slicesIn, surfaceCount, surfacesOf}
 use Rattle.definition.specs.Verdict.{nowhere, refusedAt}
 use Rattle.definition.specs.MemoryInit.{Lists}
 use Rattle.definition.specs.Pass.{Reply, refusal, Outcome, refusedPass, checkPass}
@@ -30,12 +30,15 @@ fresh = record { lists = noEntries; status = replicate maxSurfaces 0 }
 unfoldable pub surfaceRight : Session → Surface → Bool
 surfaceRight S s =
     ltb (s .texture) (S .textureCount) && ltb (s .mip) (S .texture (s .texture) .mips) && ltb (s .layer) (arrayLayers (S .texture (s .texture)))
+    && ltb (s .slice) (slicesIn (S .texture (s .texture)) (s .mip))
 
+-- Its slice is one of each of its mips: of the last, which has the fewest.
 unfoldable pub rangeRight : Session → Range → Bool
 rangeRight S r =
     ltb (r .texture) (S .textureCount)
     && leb 1 (r .mips) && leb (r .mip + r .mips) (S .texture (r .texture) .mips)
     && leb 1 (r .layers) && leb (r .layer + r .layers) (arrayLayers (S .texture (r .texture)))
+    && ltb (r .slice) (slicesIn (S .texture (r .texture)) (r .mip + r .mips - 1))
 
 abbrev pub surfacesRight : Session → List Surface → Bool
 surfacesRight S [] = true

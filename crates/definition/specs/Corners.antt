@@ -169,8 +169,8 @@ rowFrom held ps out = record { flags = 7; held = held; calls = map check ps; ans
 -- Eight discards of texture 0 among 64, and so many actions.
 abbrev fullOf : ℕ → Lists
 fullOf actions = record {
-  discards = replicate 8 (surfaceAt 0 0 0) ++ replicate 56 (surfaceAt 2 0 0);
-  actions = replicate actions (implicitAt (surfaceAt 2 0 0));
+  discards = replicate 8 (surfaceAt 0 0 0 0) ++ replicate 56 (surfaceAt 2 0 0 0);
+  actions = replicate actions (implicitAt (surfaceAt 2 0 0 0));
   clears = [];
 }
 

@@ -179,8 +179,17 @@ readOnlyDepthStencil S = bit (S .flags) 3
 unfoldable pub arrayLayers : Texture → ℕ
 arrayLayers t = cond (eqb (t .dimension) 3) 1 (t .depth)
 
+-- The slices of a mip: a 3D texture's mip depth, else one.
+unfoldable pub slicesIn : Texture → ℕ → ℕ
+slicesIn t m = cond (eqb (t .dimension) 3) (mipSize (t .depth) m) 1
+
+-- The number of surfaces of the mips before n, and of all.
+unfoldable pub mipsBefore : Texture → ℕ → ℕ
+mipsBefore t zero = 0
+mipsBefore t (suc n) = mipsBefore t n + slicesIn t n * arrayLayers t
+
 abbrev pub surfacesIn : Texture → ℕ
-surfacesIn t = t .mips * arrayLayers t
+surfacesIn t = mipsBefore t (t .mips)
 
 -- The number of surfaces of the textures before k.
 unfoldable pub surfacesBefore : Session → ℕ → ℕ
@@ -190,18 +199,25 @@ surfacesBefore S (suc k) = surfacesBefore S k + surfacesIn (S .texture k)
 abbrev pub surfaceCount : Session → ℕ
 surfaceCount S = surfacesBefore S (S .textureCount)
 
--- A surface's place among the status bytes: by texture, mip, layer.
-abbrev pub surfaceIndex : Session → Surface → ℕ
-surfaceIndex S s = surfacesBefore S (s .texture) + s .mip * arrayLayers (S .texture (s .texture)) + s .layer
+-- A surface's place among those of its texture, by mip and slice or layer; and among the status bytes.
+abbrev pub surfaceOffset : Texture → Surface → ℕ
+surfaceOffset t s = mipsBefore t (s .mip) + (s .slice * arrayLayers t + s .layer)
 
--- All surfaces in that order: those of a texture's first n mips of so many layers each, and of the first n textures.
-abbrev pub mipSurfaces : ℕ → ℕ → ℕ → List Surface
-mipSurfaces t count zero = []
-mipSurfaces t count (suc n) = mipSurfaces t count n ++ layersFrom t n 0 count
+abbrev pub surfaceIndex : Session → Surface → ℕ
+surfaceIndex S s = surfacesBefore S (s .texture) + surfaceOffset (S .texture (s .texture)) s
+
+-- All surfaces in that order: those of a mip's first n slices of so many layers each, of a texture's first n mips, and of the first n textures.
+abbrev pub sliceSurfaces : ℕ → ℕ → ℕ → ℕ → List Surface
+sliceSurfaces t m layers zero = []
+sliceSurfaces t m layers (suc n) = sliceSurfaces t m layers n ++ layersFrom t m n 0 layers
+
+abbrev pub mipSurfaces : Texture → ℕ → ℕ → List Surface
+mipSurfaces x t zero = []
+mipSurfaces x t (suc n) = mipSurfaces x t n ++ sliceSurfaces t n (arrayLayers x) (slicesIn x n)
 
 abbrev pub textureSurfaces : Session → ℕ → List Surface
 textureSurfaces S zero = []
-textureSurfaces S (suc n) = textureSurfaces S n ++ mipSurfaces n (arrayLayers (S .texture n)) (S .texture n .mips)
+textureSurfaces S (suc n) = textureSurfaces S n ++ mipSurfaces (S .texture n) n (S .texture n .mips)
 
 abbrev pub surfacesOf : Session → List Surface
 surfacesOf S = textureSurfaces S (S .textureCount)
@@ -226,10 +242,6 @@ heightOf S v = mipSize (S .texture (v .texture) .height) (v .mip)
 abbrev pub depthOf : Session → View → ℕ
 depthOf S v = mipSize (S .texture (v .texture) .depth) (v .mip)
 
--- The view's surfaces.
-abbrev pub viewRange : View → Range
-viewRange v = rangeAt (v .texture) (v .mip) (v .mips) (v .layer) (v .layers)
-
 -- The view dimensions that the checks ask for.
 abbrev pub isD2 : View → Bool
 isD2 v = eqb (v .dimension) 2
@@ -239,6 +251,19 @@ isD2Array v = eqb (v .dimension) 3
 
 abbrev pub isD3 : View → Bool
 isD3 v = eqb (v .dimension) 6
+
+-- What a view has at a slice; and as an attachment, where the slice counts for a D3 view alone.
+abbrev pub rangeOf : View → ℕ → Range
+rangeOf v slice = rangeAt (v .texture) (v .mip) (v .mips) (v .layer) (v .layers) slice
+
+abbrev pub attachedSlice : View → ℕ → ℕ
+attachedSlice v slice = cond (isD3 v) slice 0
+
+abbrev pub sliceRange : View → ℕ → Range
+sliceRange v slice = rangeOf v (attachedSlice v slice)
+
+abbrev pub viewRange : View → Range
+viewRange v = rangeOf v 0
 
 -- The usage bits 4, 16 and 32 (W3C GPUTextureUsage TEXTURE_BINDING, RENDER_ATTACHMENT, TRANSIENT_ATTACHMENT).
 abbrev pub textureBinding : View → Bool

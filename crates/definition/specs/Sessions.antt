@@ -7,7 +7,7 @@ use lib.ListN.{length, replicate}
 use Rattle.definition.specs.Sizes.{noView}
 use Rattle.definition.specs.Formats.{withColor}
 use Rattle.definition.specs.Surfaces.{surfaceAt, rangeAt}
-use Rattle.definition.specs.Session.{session}
+use Rattle.definition.specs.Session.{session, surfaceCount}
 use Rattle.definition.specs.Verdict.{refusedAt}
 use Rattle.definition.specs.Calls.{noEntries, lentRight, passCall}
 use Rattle.definition.specs.declared.Surface.{Surface}
@@ -158,6 +158,23 @@ color-views : alone (file 8 0 1 (plain ∷ texture 22 2 4 1 1 1 16 ∷ texture 3
 unfolding computing
 color-views = refl
 
+-- A slice is a surface of its own: slice 0 is discarded and slice 1 stored; a load of slice 1 returns nothing, one of slice 0 its clear; a slice is a mip's, so
+-- that slice 0 of mip 1 is another.
+slices-apart : deskcheck (file 8 0 1 (texture 3 3 4 4 2 1 16 ∷ []) (view 0 6 1 1 16 0 ∷ (0 ∷ 6 ∷ 1 ∷ 1 ∷ 0 ∷ 1 ∷ 16 ∷ 0 ∷ []) ∷ [])
+    (colors (sliceSlot 0 1 0 noView 1 1 ∷ sliceSlot 0 1 1 noView 1 0 ∷ [])
+    ∷ colors (sliceSlot 0 1 1 noView 0 0 ∷ [])
+    ∷ colors (sliceSlot 1 1 0 noView 0 0 ∷ [])
+    ∷ colors (sliceSlot 0 1 0 noView 0 0 ∷ [])
+    ∷ []))
+    ≡ (accepted 0 4 1 0 1 ∷ accepted 1 4 1 0 1 ∷ accepted 2 2 1 0 1 ∷ accepted 3 4 1 1 0 ∷ [])
+unfolding computing
+slices-apart = refl
+
+-- Surfaces count slices: a 3D texture of 32 slices and 15 mips has 32 + 16 + 8 + 4 + 2 and ten times 1, 72 in all; a D2 texture of one layer has one.
+slices-counted : surfaceCount (session (file 8 0 0 (texture 3 3 4 32 15 1 16 ∷ plain ∷ []) [] [])) ≡ 73
+unfolding computing
+slices-counted = refl
+
 -- View 0 has four samples, the others one. Source of one sample (42), formats 3 and 5 (43), a target that is not resolvable (44), transient (45), 3D (48),
 -- the source itself (41 at place 8); and one that is accepted, with the source's samples.
 resolve-targets : alone (file 8 0 1
@@ -269,8 +286,9 @@ past-the-last : passCall (session example) 2 noEntries .reply .verdict ≡ refus
 unfolding computing
 past-the-last = refl
 
--- 6: what is lent beside the example, whose one surface is (0, 0, 0). One status byte of 3 is right, 4 is not; 64 discards are right, 65 and a surface of
--- mip 1 are not; a range of the one surface is right, an empty one and one of two layers are not; 80 clears are right, 81 are not.
+-- 6: what is lent beside the example, whose one surface is (0, 0, 0), slice 0. One status byte of 3 is right, 4 is not; 64 discards are right, 65 and a surface of
+-- mip 1 are not; a range of the one surface is right, an empty one and one of two layers are not; 80 clears are right, 81 are not; nor is
+-- slice 1, as a surface or a range.
 abbrev lent : List Surface → List Range → List Surface → ℕ → Bool
 lent discards ranges clears byte = lentRight (session example) (record {
   lists = record { discards = discards; actions = map (λ r. record { range = r; kind = NeedsInitializedMemory }) ranges; clears = clears };
@@ -278,13 +296,14 @@ lent discards ranges clears byte = lentRight (session example) (record {
 })
 
 abbrev one : Surface
-one = surfaceAt 0 0 0
+one = surfaceAt 0 0 0 0
 
 lent-state :
     (lent [] [] [] 3 ∷ lent [] [] [] 4
-    ∷ lent (replicate 64 one) [] [] 0 ∷ lent (replicate 65 one) [] [] 0 ∷ lent (surfaceAt 0 1 0 ∷ []) [] [] 0
-    ∷ lent [] (rangeAt 0 0 1 0 1 ∷ []) [] 0 ∷ lent [] (rangeAt 0 0 1 0 0 ∷ []) [] 0 ∷ lent [] (rangeAt 0 0 1 0 2 ∷ []) [] 0
-    ∷ lent [] [] (replicate 80 one) 0 ∷ lent [] [] (replicate 81 one) 0 ∷ [])
-    ≡ (true ∷ false ∷ true ∷ false ∷ false ∷ true ∷ false ∷ false ∷ true ∷ false ∷ [])
+    ∷ lent (replicate 64 one) [] [] 0 ∷ lent (replicate 65 one) [] [] 0 ∷ lent (surfaceAt 0 1 0 0 ∷ []) [] [] 0
+    ∷ lent [] (rangeAt 0 0 1 0 1 0 ∷ []) [] 0 ∷ lent [] (rangeAt 0 0 1 0 0 0 ∷ []) [] 0 ∷ lent [] (rangeAt 0 0 1 0 2 0 ∷ []) [] 0
+    ∷ lent [] [] (replicate 80 one) 0 ∷ lent [] [] (replicate 81 one) 0
+    ∷ lent (surfaceAt 0 0 0 1 ∷ []) [] [] 0 ∷ lent [] (rangeAt 0 0 1 0 1 1 ∷ []) [] 0 ∷ [])
+    ≡ (true ∷ false ∷ true ∷ false ∷ false ∷ true ∷ false ∷ false ∷ true ∷ false ∷ false ∷ false ∷ [])
 unfolding computing
 lent-state = refl

@@ -87,12 +87,12 @@ maxActions = 512
 abbrev pub maxClears : ℕ
 maxClears = 80
 
--- Numbers of a record: a discard or clear is a surface (texture, mip, layer); an action is texture, mip, mips, layer, layers, kind.
+-- Numbers of a record: a discard or clear is a surface (texture, mip, layer, slice); an action is texture, mip, mips, layer, layers, kind, slice.
 abbrev pub surfaceNumbers : ℕ
-surfaceNumbers = 3
+surfaceNumbers = 4
 
 abbrev pub actionNumbers : ℕ
-actionNumbers = 6
+actionNumbers = 7
 
 -- The same in bytes: a number has four.
 abbrev pub surfaceBytes : ℕ

@@ -6,14 +6,14 @@ use lib.Dec.{leb, ltb, eqb}
 use Rattle.definition.specs.declared.Surface.{Surface}
 use Rattle.definition.specs.declared.Range.{Range}
 
-abbrev pub surfaceAt : ℕ → ℕ → ℕ → Surface
-surfaceAt t m l = record { texture = t; mip = m; layer = l }
+abbrev pub surfaceAt : (texture mip layer slice : ℕ) → Surface
+surfaceAt t m l k = record { texture = t; mip = m; layer = l; slice = k }
 
-abbrev pub rangeAt : ℕ → ℕ → ℕ → ℕ → ℕ → Range
-rangeAt t m n l k = record { texture = t; mip = m; mips = n; layer = l; layers = k }
+abbrev pub rangeAt : (texture mip mips layer layers slice : ℕ) → Range
+rangeAt t m n l c k = record { texture = t; mip = m; mips = n; layer = l; layers = c; slice = k }
 
 unfoldable pub same : Surface → Surface → Bool
-same a b = eqb (a .texture) (b .texture) && eqb (a .mip) (b .mip) && eqb (a .layer) (b .layer)
+same a b = eqb (a .texture) (b .texture) && eqb (a .mip) (b .mip) && eqb (a .slice) (b .slice) && eqb (a .layer) (b .layer)
 
 -- x is one of the n numbers from a on.
 unfoldable pub within : ℕ → ℕ → ℕ → Bool
@@ -21,27 +21,28 @@ within a n x = leb a x && ltb x (a + n)
 
 -- The range has the surface.
 unfoldable pub hits : Range → Surface → Bool
-hits r s = eqb (s .texture) (r .texture) && within (r .mip) (r .mips) (s .mip) && within (r .layer) (r .layers) (s .layer)
+hits r s =
+    eqb (s .texture) (r .texture) && within (r .mip) (r .mips) (s .mip) && eqb (s .slice) (r .slice) && within (r .layer) (r .layers) (s .layer)
 
 abbrev pub firstOf : Range → Surface
-firstOf r = surfaceAt (r .texture) (r .mip) (r .layer)
+firstOf r = surfaceAt (r .texture) (r .mip) (r .layer) (r .slice)
 
 -- One surface as a range.
 abbrev pub onlyRange : Surface → Range
-onlyRange s = rangeAt (s .texture) (s .mip) 1 (s .layer) 1
+onlyRange s = rangeAt (s .texture) (s .mip) 1 (s .layer) 1 (s .slice)
 
--- What a discard of the range names: its first mip and layer.
+-- What a discard of the range names: its first mip and layer, at its slice.
 abbrev pub named : Range → List Surface
 named r = firstOf r ∷ []
 
--- The layers of a mip, from layer l, n to go.
-abbrev pub layersFrom : ℕ → ℕ → ℕ → ℕ → List Surface
-layersFrom t m l zero = []
-layersFrom t m l (suc n) = surfaceAt t m l ∷ layersFrom t m (l + 1) n
+-- The layers of slice k of a mip, from layer l, n to go.
+abbrev pub layersFrom : ℕ → ℕ → ℕ → ℕ → ℕ → List Surface
+layersFrom t m k l zero = []
+layersFrom t m k l (suc n) = surfaceAt t m l k ∷ layersFrom t m k (l + 1) n
 
 -- The surfaces of the range's first mip, lowest layer first.
 abbrev pub layersOf : Range → List Surface
-layersOf r = layersFrom (r .texture) (r .mip) (r .layer) (r .layers)
+layersOf r = layersFrom (r .texture) (r .mip) (r .slice) (r .layer) (r .layers)
 
 -- The list has the surface; two lists have one in common.
 abbrev pub elem : Surface → List Surface → Bool

@@ -1,11 +1,11 @@
 -- The checks of one view as an attachment: numbers 30 to 45 and 48.
 use Prim.Native.Nat.{ℕ}
-use mathlib.Core.List.{List, [], _∷_}
+use mathlib.Core.List.{List}
 use mathlib.Core.Bool.{Bool, not, _&&_, _||_, cond}
 use lib.Dec.{leb, ltb, eqb}
 use Rattle.definition.specs.Formats.{isColor}
-use Rattle.definition.specs.Surfaces.{surfaceAt, layersOf, meets}
-use Rattle.definition.specs.Session.{Session, multiview, formatOf, samplesOf, widthOf, heightOf, depthOf, viewRange, isD2, isD2Array, isD3, transient, renderAttachment}
+use Rattle.definition.specs.Surfaces.{layersOf, meets}
+use Rattle.definition.specs.Session.{Session, multiview, formatOf, samplesOf, widthOf, heightOf, depthOf, sliceRange, isD2, isD2Array, isD3, transient, renderAttachment}
 use Rattle.definition.specs.Verdict.{atDepthStencil, nowhere, _then_, unless, unlessAgainst}
 use Rattle.definition.specs.declared.View.{View}
 use Rattle.definition.specs.declared.Slot.{Slot}
@@ -48,9 +48,9 @@ sliceVerdict S c v place =
     (unless (eqb (c .sliced) 1) 39 place then unless (ltb (c .slice) (depthOf S v)) 38 place)
     (unless (eqb (c .sliced) 0) 40 place)
 
--- What a view takes: a slice of a 3D view, else its layers.
+-- What a view takes as an attachment: its surfaces.
 unfoldable pub takes : View → ℕ → List Surface
-takes v slice = cond (isD3 v) (surfaceAt (v .texture) (v .mip) slice ∷ []) (layersOf (viewRange v))
+takes v slice = layersOf (sliceRange v slice)
 
 -- check_attachment_overlap: 41.
 unfoldable pub overlapVerdict : List Surface → View → ℕ → ℕ → Verdict

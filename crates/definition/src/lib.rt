@@ -97,21 +97,23 @@ pub struct Progress {
     pub seen: Seen,
 }
 
-// A surface: texture, mip and layer (TextureSurfaceDiscard). Where overlap is tested, a D3 view's slice stands for the layer.
+// A surface: texture, mip, layer and slice (TextureSurfaceDiscard). A 3D texture has one layer, another one slice.
 #[repr(C)]
 pub struct Surface {
     pub texture: u32,
     pub mip: u32,
     pub layer: u32,
+    pub slice: u32,
 }
 
-// So many mips and layers of a texture, from the first of each on (TextureInitRange).
+// So many mips and layers of a texture, from the first of each on, at one slice (TextureInitRange).
 pub struct Range {
     pub texture: u32,
     pub mip: u32,
     pub mips: u32,
     pub layer: u32,
     pub layers: u32,
+    pub slice: u32,
 }
 
 // Whether an action needs its surfaces initialized, or initializes them itself.

@@ -79,10 +79,10 @@ pub const MAX_ACTIONS: usize = 512;
 pub const MAX_CLEARS: usize = 80;
 
 // Numbers of a discard or a clear.
-pub const SURFACE_NUMBERS: usize = 3;
+pub const SURFACE_NUMBERS: usize = 4;
 
 // Numbers of an action.
-pub const ACTION_NUMBERS: usize = 6;
+pub const ACTION_NUMBERS: usize = 7;
 
 // Bytes of a discard or a clear.
 pub const SURFACE_BYTES: usize = 4 * SURFACE_NUMBERS;

@@ -8,7 +8,7 @@ use native.Mathlib.Omega.{arith}
 use lib.Dec.{ltb}
 use lib.ListN.{length}
 use borrow.Author.Tests.{lt-ltb, le-ltb, eqb-true}
-use Rattle.definition.specs.Sizes.{maxDiscards, maxActions, maxAdded, surfaceNumbers, actionNumbers}
+use Rattle.definition.specs.Sizes.{maxDiscards, maxActions, surfaceNumbers, actionNumbers}
 use Rattle.definition.specs.Session.{session}
 use Rattle.definition.specs.Readable.{sessionRefusal}
 use Rattle.definition.specs.Verdict.{nowhere, isFine, refusedAt}
@@ -28,6 +28,7 @@ use Rattle.lent.proofs.Packing.{unpacked-all, packed-behind, packed-whole, pack
 use Rattle.render.specs.declared.PassReply.{PassReply}
 use Rattle.render.specs.declared.PassOutcome.{PassOutcome}
 use Rattle.render.specs.Outcome.{Checked}
+use Rattle.render.specs.Outcome.{mostAdded}
 use Rattle.render.proofs.Behind.{behind, before, check-added, behind-refused, behind-accepted, behind-full}
 use Rattle.desk.specs.declared.reply.Reply.{Reply}
 use Rattle.desk.specs.Entry.{ListBytes, Buffers, listsIn, heldIn, tooShort, entry, Opened}
@@ -94,12 +95,13 @@ module _ (s : List ℕ) (i : ℕ) (n : Counts) (o : PassOutcome) (x x′ y y′ 
   added : length (checkPass (session s) (session s .pass i) (held (unlisted n) x y z) .lists .actions) ≡ o .counts .actions
   added = ap (λ (l : Lists). length (l .actions)) (sym (check .lists)) ∙ records-length actionNumbers decodeAction (o .counts .actions) y′
 
-  pub added-few : n .discards ≤ maxDiscards → o .counts .actions ≤ maxAdded
-  added-few few =
+  pub added-few : o .counts .actions ≤ mostAdded (n .discards)
+  added-few =
       omega (
         arith,
         added,
-        check-added [] (session s) (session s .pass i) (held (unlisted n) x y z) [] (omega (arith, few, records-length surfaceNumbers decodeSurface (n .discards) x)),
+        check-added [] (session s) (session s .pass i) (held (unlisted n) x y z) [],
+        records-length surfaceNumbers decodeSurface (n .discards) x,
         records-length actionNumbers decodeAction 0 y,
       )
 

@@ -1,5 +1,5 @@
 -- What a submission leaves in the lent bytes: everything where it is refused, else no entries and the status bytes that it makes.
-use mathlib.Core.Path.{_≡_, refl, sym, ap, _∙_}
+use mathlib.Core.Path.{_≡_, refl, sym, ap, subst, _∙_}
 use mathlib.Core.Logic.{_≢_}
 use mathlib.Core.Bool.{true, false}
 use mathlib.Core.List.{List, []}
@@ -16,14 +16,14 @@ use Rattle.laws.specs.Records.{records}
 use Rattle.wire.specs.Writing.{putNumber}
 use Rattle.wire.proofs.Writing.{put-read}
 use Rattle.memory_init.specs.declared.Counts.{Counts}
-use Rattle.records.specs.Lent.{decodeSurface, decodeAction, surfaces, actions}
+use Rattle.memory_init.specs.Lent.{Within}
+use Rattle.records.specs.Lent.{surfaces, actions}
 use Rattle.lent.specs.Numbers.{numbersAt}
 use Rattle.lent.specs.Packed.{countIn}
 use Rattle.lent.specs.Right.{countsIn}
 use Rattle.lent.specs.State.{surfacesIn, actionsIn}
-use Rattle.lent.specs.Judged.{Unpacked}
 use Rattle.lent.proofs.Numbers.{number-past}
-use Rattle.lent.proofs.Packing.{not-short, unpacked-all}
+use Rattle.lent.proofs.Packing.{not-short}
 use Rattle.readable.proofs.Valid.{valid-of}
 use Rattle.submission.specs.Runs.{Submits}
 use Rattle.submission.proofs.Lent.{right-submits}
@@ -69,35 +69,29 @@ none-listed b h =
 rest-stays : (b b′ : List ℕ) → b′ ≡ putNumber 4 b 0 0 → drop countBytes b′ ≡ drop countBytes b
 rest-stays b b′ e = ap (drop countBytes) e ∙ number-past b 0 0 4 countBytes (omega arith)
 
--- Of what is right the counts are n, and the first of the numbers x and y are those of its discards and actions.
-module _ (s d a c b : List ℕ) (n : Counts) (x y : List ℕ) (opened : Opened s (buffers d a c b)) (right : lentRight (session s) (heldIn (buffers d a c b)) ≡ true) (counts : n ≡ countsIn d a c)
-    {x₀ y₀ : List ℕ} (xs : Unpacked surfaceNumbers (n .discards) d x₀ x) (ys : Unpacked actionNumbers (n .actions) a y₀ y) where
-  discards-held : surfaces (n .discards) x ≡ surfacesIn d
-  discards-held = unpacked-all surfaceNumbers decodeSurface (n .discards) x d (ap (λ (q : Counts). q .discards) counts) xs
-
-  actions-held : actions (n .actions) y ≡ actionsIn a
-  actions-held = unpacked-all actionNumbers decodeAction (n .actions) y a (ap (λ (q : Counts). q .actions) counts) ys
-
+-- Lists that are right.
+module _ (s d a c b : List ℕ) (opened : Opened s (buffers d a c b)) (right : lentRight (session s) (heldIn (buffers d a c b)) ≡ true) where
   -- They can be submitted.
-  pub sent-submits : surfaceNumbers * n .discards ≤ length x → actionNumbers * n .actions ≤ length y → Submits (session s) n x y b
-  sent-submits lx ly =
+  pub sent-submits : (n : Counts) → n ≡ countsIn d a c → Within n → Submits (session s) d a b
+  sent-submits n counts few =
       let valid = valid-of s (opened .readable) in
-      right-submits (session s) (heldIn (buffers d a c b)) n x y b right (sym discards-held) (sym actions-held) (valid .textures) (valid .surfaces (session s .textureCount) (le-refl (session s .textureCount)))
-      (not-short d a c b (opened .long) .status) lx ly
+      let long = not-short d a c b (opened .long) in
+      let within : Within (countsIn d a c) = subst Within counts few in
+      right-submits (session s) d a c b right (valid .textures) (valid .surfaces (session s .textureCount) (le-refl (session s .textureCount)))
+      (long .status) (omega (arith, long .discards, within .discards)) (omega (arith, long .actions, within .actions))
 
-  -- The counts are written, and the status bytes are made of the numbers.
+  -- The counts are written, and the status bytes are the submission's.
   pub sent-all : (d′ a′ b′ : List ℕ) → d′ ≡ putNumber 4 d 0 0 → a′ ≡ putNumber 4 a 0 0
-      → b′ ≡ submitBytes (actions (n .actions) y) (surfaces (n .discards) x) (surfacesOf (session s)) b
+      → b′ ≡ submitBytes (actionsIn a) (surfacesIn d) (surfacesOf (session s)) b
       → length d′ ≡ length d → length a′ ≡ length a → length b′ ≡ length b → SubmitPromise s (buffers d a c b) 0 (buffers d′ a′ c b′)
   sent-all d′ a′ b′ ed ea eb nd na nb =
       let long = not-short d a c b (opened .long) in
       let no-discards : surfacesIn d′ ≡ [] = ap surfacesIn ed ∙ none-listed d (omega (arith, long .discards)) .0 in
       let no-actions : actionsIn a′ ≡ [] = ap actionsIn ea ∙ none-listed a (omega (arith, long .actions)) .1 in
-      let bytes = eb ∙ (λ q. submitBytes (actions-held q) (discards-held q) (surfacesOf (session s)) b) in
       let step = entry-called s submit (buffers d a c b) opened right in
       record {
         number = ap (λ (q : Step). numberIn (q .answer)) (sym step);
-        state = (λ q. record { lists = record { discards = no-discards q; actions = no-actions q; clears = surfacesIn c }; status = bytes q })
+        state = (λ q. record { lists = record { discards = no-discards q; actions = no-actions q; clears = surfacesIn c }; status = eb q })
             ∙ ap (λ (q : Step). q .state) (sym step);
         refused = λ g. absurd (g refl);
         discards = rest-stays d d′ ed;

@@ -3,4 +3,5 @@ pub mod Entry
 pub mod Reply
 pub mod Promise
 pub mod Whole
+pub mod Index
 pub mod EntryPoints

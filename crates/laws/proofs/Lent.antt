@@ -1,10 +1,11 @@
 -- Laws of number 6 of records: a list is right where its parts are, and a surface of the session is a range of it.
-use mathlib.Core.Path.{_≡_, refl, sym, ap, _∙_}
+use mathlib.Core.Path.{_≡_, refl, sym, ap, subst, _∙_}
 use mathlib.Core.Bool.{Bool, true, false, _&&_, cond, and-assoc}
 use mathlib.Core.List.{List, [], _∷_, _++_, map}
 use native.Mathlib.Omega.{arith}
+use Prim.Native.Nat.{_+_, _-_, _<_}
 use Rattle.definition.specs.Surfaces.{firstOf, onlyRange}
-use Rattle.definition.specs.Session.{Session}
+use Rattle.definition.specs.Session.{Session, slicesIn}
 use Rattle.definition.specs.MemoryInit.{implicitAt, retain}
 use Rattle.definition.specs.Calls.{surfaceRight, rangeRight, surfacesRight, actionsRight}
 use Rattle.definition.specs.declared.Surface.{Surface}
@@ -38,7 +39,14 @@ module _ (S : Session) where
   pub only-right : (s : Surface) → surfaceRight S s ≡ true → rangeRight S (onlyRange s) ≡ true
   only-right s h =
       let i : Inside S s = surface-inside S s h in
-      inside-range S (onlyRange s) (record { texture = i .texture; some-mip = omega arith; mips = omega (arith, i .mip); some-layer = omega arith; layers = omega (arith, i .layer) })
+      inside-range S (onlyRange s) (record {
+        texture = i .texture;
+        some-mip = omega arith;
+        mips = omega (arith, i .mip);
+        some-layer = omega arith;
+        layers = omega (arith, i .layer);
+        slice = subst (λ m. s .slice < slicesIn (S .texture (s .texture)) m) (let e : s .mip ≡ s .mip + 1 - 1 = omega arith in e) (i .slice);
+      })
 
   pub first-right : (r : Range) → rangeRight S r ≡ true → surfaceRight S (firstOf r) ≡ true
   first-right r h = inside-surface S (firstOf r) (range-first S r (range-inside S r h))

@@ -83,11 +83,11 @@ meet-more f n g k =
     (λ q. simp (within-low g k f a, meet-before (f + 1) n g k q, meet-before f (suc n) g k (omega arith)))
     (λ q. simp (within-low g k f a, meet-on (f + 1) n g k (omega arith) q (omega arith) p, meet-on f (suc n) g k h (omega arith) (omega arith) p)))))
 
--- The layers of two spans meet where texture and mip are the same and the intervals meet.
-pub layers-meet : (t m f n t′ m′ g k : ℕ)
-    → meets (layersFrom t m f n) (layersFrom t′ m′ g k) ≡ (eqb t t′ && eqb m m′ && spansMeet f n g k)
-layers-meet t m f zero t′ m′ g k =
-    sym (ap (λ q. eqb t t′ && eqb m m′ && q) (meet-none f 0 g k (omega arith)) ∙ and-false (eqb t t′ && eqb m m′))
-layers-meet t m f (suc n) t′ m′ g k =
-    rw (elem-layers t′ m′ g k (record { texture = t; mip = m; layer = f }), layers-meet t m (f + 1) n t′ m′ g k)
-    (or-factor (eqb t t′ && eqb m m′) (within g k f) (spansMeet (f + 1) n g k) ∙ ap (λ q. eqb t t′ && eqb m m′ && q) (meet-more f n g k))
+-- The layers of two spans meet where texture, mip and slice are the same and the intervals meet.
+pub layers-meet : (t m c f n t′ m′ c′ g k : ℕ)
+    → meets (layersFrom t m c f n) (layersFrom t′ m′ c′ g k) ≡ (eqb t t′ && eqb m m′ && eqb c c′ && spansMeet f n g k)
+layers-meet t m c f zero t′ m′ c′ g k =
+    sym (ap (λ q. eqb t t′ && eqb m m′ && eqb c c′ && q) (meet-none f 0 g k (omega arith)) ∙ and-false (eqb t t′ && eqb m m′ && eqb c c′))
+layers-meet t m c f (suc n) t′ m′ c′ g k =
+    rw (elem-layers t′ m′ c′ g k (record { texture = t; mip = m; layer = f; slice = c }), layers-meet t m c (f + 1) n t′ m′ c′ g k)
+    (or-factor (eqb t t′ && eqb m m′ && eqb c c′) (within g k f) (spansMeet (f + 1) n g k) ∙ ap (λ q. eqb t t′ && eqb m m′ && eqb c c′ && q) (meet-more f n g k))

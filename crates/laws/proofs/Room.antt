@@ -1,7 +1,7 @@
 -- The room that the lists take: what a pass clears was listed before it or is listed by it, so that clears and discards together grow by what it lists,
--- and actions and discards by that and one action an attachment.
-use mathlib.Core.Path.{_≡_, refl}
-use mathlib.Core.Bool.{Bool, true, false, _&&_, cond}
+-- and actions and discards by that and one action an attachment; and where no surface is reached twice, what it clears was listed before it.
+use mathlib.Core.Path.{_≡_, refl, ap, _∙_}
+use mathlib.Core.Bool.{Bool, true, false, not, _&&_, _||_, cond}
 use mathlib.Core.List.{List, [], _∷_, _++_, map}
 use mathlib.Core.Option.{Option, none, some}
 use Prim.Native.Nat.{ℕ, zero, suc, _+_, _≤_}
@@ -10,18 +10,20 @@ use lib.Dec.{leb}
 use lib.ListN.{length, length-append, length-map}
 use borrow.Author.Tests.{leb-true}
 use Rattle.definition.specs.Sizes.{maxDiscards}
-use Rattle.definition.specs.Surfaces.{named}
-use Rattle.definition.specs.Session.{Session, Pass, isNone, viewRange}
-use Rattle.definition.specs.MemoryInit.{Lists, implicitAt, matching, registerInitAction, registered, discarded}
+use Rattle.definition.specs.Surfaces.{hits, named, elem}
+use Rattle.definition.specs.Session.{Session, Pass, isNone, sliceRange}
+use Rattle.definition.specs.MemoryInit.{Lists, implicitAt, retain, matching, registerInitAction, registered, discarded}
 use Rattle.definition.specs.Attachments.{Attached, resolveTo, rangeIn, kindOf, discards, attach, attachAll, depthStencilOf, depthStencilPart, resolvePart, colorOf, slotPart, slotParts, attachments}
 use Rattle.definition.specs.Pass.{discardsFit}
 use Rattle.definition.specs.declared.Range.{Range}
 use Rattle.definition.specs.declared.Slot.{Slot}
+use Rattle.definition.specs.declared.Surface.{Surface}
 use Rattle.definition.specs.declared.MemoryInitKind.{MemoryInitKind}
 use Rattle.definition.specs.declared.MemoryInitKind.the-variants.{ImplicitlyInitialized, NeedsInitializedMemory}
-use Rattle.laws.specs.Room.{held, entered, listedBy, listedByAll}
-use Rattle.laws.proofs.Tests.{and-left, and-right}
-use Rattle.laws.proofs.Lists.{matching-others}
+use Rattle.laws.specs.Room.{reaches, reached, Separate, held, entered, listedBy, listedByAll}
+use Rattle.laws.proofs.Tests.{and-left, and-right, or-off-left, or-off-right}
+use Rattle.laws.proofs.Lists.{retain-append, retain-most, matching-others}
+use Rattle.laws.proofs.Surfaces.{retain-none}
 
 -- ── clears and discards
 
@@ -71,6 +73,140 @@ pub all-entered : (xs : List Attached) (l : Lists) → entered (attachAll xs l) 
 all-entered [] l = omega arith
 all-entered (x ∷ xs) l = omega (arith, attach-entered x l, all-entered xs (attach x l))
 
+-- ── where no surface is reached twice
+
+-- What passes either of two tests passes the first, or fails it and passes the second.
+retain-either : {A : Type 0} (f g : A → Bool) (a : List A)
+    → length (retain f a) + length (retain g (retain (λ x. not (f x)) a)) ≡ length (retain (λ x. f x || g x) a)
+retain-either f g [] = refl
+retain-either f g (x ∷ a) = go (f x) (retain-either f g a)
+  where
+    more : (q : Bool) → length (retain f a) + length (retain g (retain (λ x. not (f x)) a)) ≡ length (retain (λ x. f x || g x) a)
+        → length (retain f a) + length (cond q (x ∷ retain g (retain (λ x. not (f x)) a)) (retain g (retain (λ x. not (f x)) a)))
+        ≡ length (cond q (x ∷ retain (λ x. f x || g x) a) (retain (λ x. f x || g x) a))
+    more true ih = omega (arith, ih)
+    more false ih = ih
+
+    go : (p : Bool) → length (retain f a) + length (retain g (retain (λ x. not (f x)) a)) ≡ length (retain (λ x. f x || g x) a)
+        → length (cond p (x ∷ retain f a) (retain f a)) + length (retain g (cond (not p) (x ∷ retain (λ x. not (f x)) a) (retain (λ x. not (f x)) a)))
+        ≡ length (cond (p || g x) (x ∷ retain (λ x. f x || g x) a) (retain (λ x. f x || g x) a))
+    go true ih = omega (arith, ih)
+    go false ih = more (g x) ih
+
+retain-more : {A : Type 0} (f g : A → Bool) (a : List A) → length (retain g a) ≤ length (retain (λ x. f x || g x) a)
+retain-more f g [] = omega arith
+retain-more f g (x ∷ a) = go (f x) (g x) (retain-more f g a)
+  where
+    go : (p q : Bool) → length (retain g a) ≤ length (retain (λ x. f x || g x) a)
+        → length (cond q (x ∷ retain g a) (retain g a)) ≤ length (cond (p || q) (x ∷ retain (λ x. f x || g x) a) (retain (λ x. f x || g x) a))
+    go true true ih = omega (arith, ih)
+    go true false ih = omega (arith, ih)
+    go false true ih = omega (arith, ih)
+    go false false ih = ih
+
+-- The discards that attachments will reach.
+abbrev awaited : List Attached → Lists → ℕ
+awaited xs l = length (retain (λ s. reached s xs) (l .discards))
+
+-- A registration moves discards that it reaches to the clears, or drops them, and adds an action and one for each that it moves.
+register-clears : (x : Attached) (xs : List Attached) (l : Lists)
+    → length (registered (rangeIn x) (kindOf x) l .clears) + awaited xs (registered (rangeIn x) (kindOf x) l) ≤ length (l .clears) + awaited (x ∷ xs) l
+unfolding registerInitAction
+register-clears x xs l = go (kindOf x)
+  where
+    r : Range
+    r = rangeIn x
+
+    f : Surface → Bool
+    f s = reached s xs
+
+    go : (k : Option MemoryInitKind) → length (registered r k l .clears) + awaited xs (registered r k l) ≤ length (l .clears) + awaited (x ∷ xs) l
+    go none = omega (arith, retain-more (hits r) f (l .discards))
+    go (some NeedsInitializedMemory) = omega (arith, length-append (l .clears) (matching r (l .discards)), retain-either (hits r) f (l .discards))
+    go (some ImplicitlyInitialized) = omega (arith, retain-either (hits r) f (l .discards))
+
+register-actions : (x : Attached) (xs : List Attached) (l : Lists)
+    → length (registered (rangeIn x) (kindOf x) l .actions) + awaited xs (registered (rangeIn x) (kindOf x) l) ≤ length (l .actions) + 1 + awaited (x ∷ xs) l
+unfolding registerInitAction
+register-actions x xs l = go (kindOf x)
+  where
+    r : Range
+    r = rangeIn x
+
+    f : Surface → Bool
+    f s = reached s xs
+
+    go : (k : Option MemoryInitKind) → length (registered r k l .actions) + awaited xs (registered r k l) ≤ length (l .actions) + 1 + awaited (x ∷ xs) l
+    go none = omega (arith, retain-more (hits r) f (l .discards))
+    go (some NeedsInitializedMemory) =
+        omega (
+          arith,
+          length-append (l .actions) (record { range = r; kind = NeedsInitializedMemory } ∷ map implicitAt (matching r (l .discards))),
+          length-map (matching r (l .discards)) implicitAt,
+          retain-either (hits r) f (l .discards),
+        )
+    go (some ImplicitlyInitialized) =
+        omega (arith, length-append (l .actions) (record { range = r; kind = ImplicitlyInitialized } ∷ []), retain-either (hits r) f (l .discards))
+
+-- What a discard lists no later one reaches.
+discard-awaited : (r : Range) (b : Bool) (xs : List Attached) (l : Lists) → ((s : Surface) → elem s (named r) ≡ true → reached s xs ≡ false)
+    → awaited xs (discarded r b l) ≡ awaited xs l
+discard-awaited r true xs l off =
+    ap length (retain-append (λ s. reached s xs) (l .discards) (named r))
+    ∙ length-append (retain (λ s. reached s xs) (l .discards)) (retain (λ s. reached s xs) (named r))
+    ∙ omega (arith, retain-none (λ s. reached s xs) (named r) off)
+discard-awaited r false xs l off = refl
+
+discard-clears : (r : Range) (b : Bool) (l : Lists) → length (discarded r b l .clears) ≡ length (l .clears)
+discard-clears r true l = refl
+discard-clears r false l = refl
+
+discard-actions : (r : Range) (b : Bool) (l : Lists) → length (discarded r b l .actions) ≡ length (l .actions)
+discard-actions r true l = refl
+discard-actions r false l = refl
+
+-- A pass returns what was listed before it and it reaches, and registers an action for each of these and one an attachment.
+all-clears : (xs : List Attached) (l : Lists) → Separate xs → length (attachAll xs l .clears) ≤ length (l .clears) + awaited xs l
+all-clears [] l sep = omega arith
+all-clears (x ∷ xs) l sep =
+    omega (
+      arith,
+      all-clears xs (attach x l) (sep .2),
+      discard-clears (rangeIn x) (discards x) (registered (rangeIn x) (kindOf x) l),
+      discard-awaited (rangeIn x) (discards x) xs (registered (rangeIn x) (kindOf x) l) (λ s e. sep .0 s (sep .1 s e)),
+      register-clears x xs l,
+    )
+
+all-actions : (xs : List Attached) (l : Lists) → Separate xs → length (attachAll xs l .actions) ≤ length (l .actions) + length xs + awaited xs l
+all-actions [] l sep = omega arith
+all-actions (x ∷ xs) l sep =
+    omega (
+      arith,
+      all-actions xs (attach x l) (sep .2),
+      discard-actions (rangeIn x) (discards x) (registered (rangeIn x) (kindOf x) l),
+      discard-awaited (rangeIn x) (discards x) xs (registered (rangeIn x) (kindOf x) l) (λ s e. sep .0 s (sep .1 s e)),
+      register-actions x xs l,
+    )
+
+-- So no more clears than discards before it.
+pub clears-most : (xs : List Attached) (l : Lists) → Separate xs → length (attachAll xs l .clears) ≤ length (l .clears) + length (l .discards)
+clears-most xs l sep = omega (arith, all-clears xs l sep, retain-most (λ s. reached s xs) (l .discards))
+
+pub actions-most : (xs : List Attached) (l : Lists) → Separate xs → length (attachAll xs l .actions) ≤ length (l .actions) + length xs + length (l .discards)
+actions-most xs l sep = omega (arith, all-actions xs l sep, retain-most (λ s. reached s xs) (l .discards))
+
+-- The first attachments of such a pass.
+reached-first : (xs ys : List Attached) (s : Surface) → reached s (xs ++ ys) ≡ false → reached s xs ≡ false
+reached-first [] ys s h = refl
+reached-first (x ∷ xs) ys s h = go (reaches x s) (or-off-left (reaches x s) (reached s (xs ++ ys)) h) (reached-first xs ys s (or-off-right (reaches x s) (reached s (xs ++ ys)) h))
+  where
+    go : (b : Bool) → b ≡ false → reached s xs ≡ false → (b || reached s xs) ≡ false
+    go b e ih = ap (λ q. q || reached s xs) e ∙ ih
+
+pub separate-first : (xs ys : List Attached) → Separate (xs ++ ys) → Separate xs
+separate-first [] ys sep = tt
+separate-first (x ∷ xs) ys sep = (λ s h. reached-first xs ys s (sep .0 s h), sep .1, separate-first xs ys (sep .2))
+
 -- ── what a pass lists
 
 pub listed-append : (xs ys : List Attached) → listedByAll (xs ++ ys) ≡ listedByAll xs + listedByAll ys
@@ -90,7 +226,7 @@ pub slot-listed : (S : Session) (c : Slot) → listedByAll (slotPart S c) ≤ 1
 unfolding slotPart resolvePart
 slot-listed S c = go (isNone (c .view)) (isNone (c .resolve))
   where
-    go : (b t : Bool) → listedByAll (cond b [] (colorOf S c ∷ cond t [] (resolveTo (c .resolve) (viewRange (S .view (c .resolve))) ∷ []))) ≤ 1
+    go : (b t : Bool) → listedByAll (cond b [] (colorOf S c ∷ cond t [] (resolveTo (c .resolve) (sliceRange (S .view (c .resolve)) 0) ∷ []))) ≤ 1
     go true t = omega arith
     go false true = omega (arith, listed-one (colorOf S c))
     go false false = omega (arith, listed-one (colorOf S c))

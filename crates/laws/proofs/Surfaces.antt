@@ -2,12 +2,13 @@
 use mathlib.Core.Path.{_≡_, refl, sym, ap, ap₂, _∙_}
 use mathlib.Core.Bool.{Bool, true, false, _&&_, _||_, cond, or-assoc, and-false, or-false}
 use mathlib.Core.List.{List, [], _∷_, _++_}
-use Prim.Native.Nat.{ℕ, zero, suc, _+_, _≤_, _<_}
+use Prim.Native.Nat.{ℕ, zero, suc, _+_, _-_, _≤_, _<_}
 use native.Mathlib.Omega.{arith}
 use lib.Dec.{leb, ltb, eqb}
+use lib.ListN.{length}
 use borrow.Author.Tests.{eqb-true, eqb-false, eq-eqb, ne-eqb, leb-true, leb-false, ltb-true, ltb-false, le-leb, lt-ltb}
 use Rattle.definition.specs.Surfaces.{same, within, hits, firstOf, onlyRange, named, layersFrom, layersOf, elem}
-use Rattle.definition.specs.Session.{Session, arrayLayers}
+use Rattle.definition.specs.Session.{Session, arrayLayers, slicesIn}
 use Rattle.definition.specs.MemoryInit.{retain}
 use Rattle.definition.specs.Calls.{surfaceRight, rangeRight}
 use Rattle.definition.specs.declared.Texture.{Texture}
@@ -15,19 +16,24 @@ use Rattle.definition.specs.declared.Surface.{Surface}
 use Rattle.definition.specs.declared.Range.{Range}
 use Rattle.laws.specs.Surfaces.{InRange, Inside, RangeInside}
 use Rattle.laws.proofs.Conjunctions.{each}
-use Rattle.laws.proofs.Tests.{clash, and-left, and-right, bool-iff, or-factor}
+use Rattle.laws.proofs.Tests.{clash, and-left, and-right, bool-iff, or-factor, or-on-left, or-on-right}
 
 -- ── equal surfaces
 
 pub same-refl : (a : Surface) → same a a ≡ true
 unfolding same
-same-refl a = simp (eq-eqb (a .texture) (a .texture) refl, eq-eqb (a .mip) (a .mip) refl, eq-eqb (a .layer) (a .layer) refl)
+same-refl a = simp (eq-eqb (a .texture) (a .texture) refl, eq-eqb (a .mip) (a .mip) refl, eq-eqb (a .slice) (a .slice) refl, eq-eqb (a .layer) (a .layer) refl)
 
 pub same-eq : (a b : Surface) → same a b ≡ true → a ≡ b
 unfolding same
 same-eq a b h =
-    let test = each (eqb (a .texture) (b .texture) ∷ eqb (a .mip) (b .mip) ∷ eqb (a .layer) (b .layer) ∷ []) h in
-    λ i. record { texture = eqb-true (a .texture) (b .texture) (test 0) i; mip = eqb-true (a .mip) (b .mip) (test 1) i; layer = eqb-true (a .layer) (b .layer) (test 2) i }
+    let test = each (eqb (a .texture) (b .texture) ∷ eqb (a .mip) (b .mip) ∷ eqb (a .slice) (b .slice) ∷ eqb (a .layer) (b .layer) ∷ []) h in
+    λ i. record {
+      texture = eqb-true (a .texture) (b .texture) (test 0) i;
+      mip = eqb-true (a .mip) (b .mip) (test 1) i;
+      layer = eqb-true (a .layer) (b .layer) (test 3) i;
+      slice = eqb-true (a .slice) (b .slice) (test 2) i;
+    }
 
 pub same-ne : (a b : Surface) → (a ≡ b → ⊥) → same a b ≡ false
 same-ne a b h = bool-iff _ _ (λ e. absurd (h (same-eq a b e))) (λ e. clash {b = false} e refl)
@@ -78,13 +84,14 @@ within-on a n x h g = simp (le-leb a x h, lt-ltb x (a + n) g)
 pub hits-in : (r : Range) (s : Surface) → hits r s ≡ true → InRange r s
 unfolding hits
 hits-in r s h =
-    let test = each (eqb (s .texture) (r .texture) ∷ within (r .mip) (r .mips) (s .mip) ∷ within (r .layer) (r .layers) (s .layer) ∷ []) h in
+    let test = each (eqb (s .texture) (r .texture) ∷ within (r .mip) (r .mips) (s .mip) ∷ eqb (s .slice) (r .slice) ∷ within (r .layer) (r .layers) (s .layer) ∷ []) h in
     record {
       texture = eqb-true (s .texture) (r .texture) (test 0);
       mip-low = low-within (r .mip) (r .mips) (s .mip) (test 1);
       mip-high = high-within (r .mip) (r .mips) (s .mip) (test 1);
-      layer-low = low-within (r .layer) (r .layers) (s .layer) (test 2);
-      layer-high = high-within (r .layer) (r .layers) (s .layer) (test 2);
+      layer-low = low-within (r .layer) (r .layers) (s .layer) (test 3);
+      layer-high = high-within (r .layer) (r .layers) (s .layer) (test 3);
+      slice = eqb-true (s .slice) (r .slice) (test 2);
     }
 
 -- A range of one mip and one layer has its first surface alone; a surface's own range has that surface alone.
@@ -112,27 +119,46 @@ elem-retain f s (x ∷ l) = go (f x) refl (same s x) refl (elem-retain f s l)
     go false e true g ih = let h : f s ≡ false = ap f (same-eq s x g) ∙ e in simp (e, ih, h)
     go false e false g ih = simp (e, g, ih)
 
+-- A list none of whose surfaces passes a test.
+pub retain-none : (f : Surface → Bool) (l : List Surface) → ((s : Surface) → elem s l ≡ true → f s ≡ false) → length (retain f l) ≡ 0
+retain-none f [] h = refl
+retain-none f (x ∷ l) h =
+    ap (λ b. length (cond b (x ∷ retain f l) (retain f l))) (h x (or-on-left (same x x) (elem x l) (same-refl x)))
+    ∙ retain-none f l (λ s e. h s (or-on-right (same s x) (elem s l) e))
+
 -- The layers of a mip.
-pub elem-layers : (t m l n : ℕ) (s : Surface)
-    → elem s (layersFrom t m l n) ≡ (eqb (s .texture) t && eqb (s .mip) m && within l n (s .layer))
+pub elem-layers : (t m k l n : ℕ) (s : Surface)
+    → elem s (layersFrom t m k l n) ≡ (eqb (s .texture) t && eqb (s .mip) m && eqb (s .slice) k && within l n (s .layer))
 unfolding same
-elem-layers t m l zero s =
-    sym (ap (λ q. eqb (s .texture) t && eqb (s .mip) m && q) (within-none l (s .layer)) ∙ and-false (eqb (s .texture) t && eqb (s .mip) m))
-elem-layers t m l (suc n) s =
-    rw (elem-layers t m (l + 1) n s, within-more l n (s .layer))
-    (or-factor (eqb (s .texture) t && eqb (s .mip) m) (eqb (s .layer) l) (within (l + 1) n (s .layer)))
+elem-layers t m k l zero s =
+    sym (ap (λ q. eqb (s .texture) t && eqb (s .mip) m && eqb (s .slice) k && q) (within-none l (s .layer)) ∙ and-false (eqb (s .texture) t && eqb (s .mip) m && eqb (s .slice) k))
+elem-layers t m k l (suc n) s =
+    rw (elem-layers t m k (l + 1) n s, within-more l n (s .layer))
+    (or-factor (eqb (s .texture) t && eqb (s .mip) m && eqb (s .slice) k) (eqb (s .layer) l) (within (l + 1) n (s .layer)))
 
 -- A range of one mip has the surfaces of its layers.
 pub layers-all : (r : Range) → r .mips ≡ 1 → (s : Surface) → elem s (layersOf r) ≡ hits r s
 unfolding hits
 layers-all r p s =
-    elem-layers (r .texture) (r .mip) (r .layer) (r .layers) s
-    ∙ ap (λ q. eqb (s .texture) (r .texture) && q && within (r .layer) (r .layers) (s .layer))
+    elem-layers (r .texture) (r .mip) (r .slice) (r .layer) (r .layers) s
+    ∙ ap (λ q. eqb (s .texture) (r .texture) && q && eqb (s .slice) (r .slice) && within (r .layer) (r .layers) (s .layer))
     (sym (ap (λ n. within (r .mip) n (s .mip)) p ∙ within-one (r .mip) (s .mip)))
 
 -- What a discard of a range of one mip and one layer names is what the range has.
 pub named-one : (r : Range) → r .mips ≡ 1 → r .layers ≡ 1 → (s : Surface) → elem s (named r) ≡ hits r s
 named-one r p q s = or-false (same s (firstOf r)) ∙ sym (hits-one r s p q)
+
+-- A range that is not empty has what a discard of it names.
+pub named-hit : (r : Range) → 1 ≤ r .mips → 1 ≤ r .layers → (s : Surface) → elem s (named r) ≡ true → hits r s ≡ true
+unfolding hits
+named-hit r p q s h =
+    ap (hits r) (same-eq s (firstOf r) (sym (or-false (same s (firstOf r))) ∙ h))
+    ∙ simp (
+      eq-eqb (r .texture) (r .texture) refl,
+      within-on (r .mip) (r .mips) (r .mip) (omega arith) (omega (arith, p)),
+      eq-eqb (r .slice) (r .slice) refl,
+      within-on (r .layer) (r .layers) (r .layer) (omega arith) (omega (arith, q)),
+    )
 
 -- ── surfaces and ranges of a session
 
@@ -141,11 +167,12 @@ pub surface-inside : (S : Session) (s : Surface) → surfaceRight S s ≡ true �
 unfolding surfaceRight
 surface-inside S s h =
     let t : Texture = S .texture (s .texture) in
-    let test = each (ltb (s .texture) (S .textureCount) ∷ ltb (s .mip) (t .mips) ∷ ltb (s .layer) (arrayLayers t) ∷ []) h in
+    let test = each (ltb (s .texture) (S .textureCount) ∷ ltb (s .mip) (t .mips) ∷ ltb (s .layer) (arrayLayers t) ∷ ltb (s .slice) (slicesIn t (s .mip)) ∷ []) h in
     record {
       texture = ltb-true (s .texture) (S .textureCount) (test 0);
       mip = ltb-true (s .mip) (t .mips) (test 1);
       layer = ltb-true (s .layer) (arrayLayers t) (test 2);
+      slice = ltb-true (s .slice) (slicesIn t (s .mip)) (test 3);
     }
 
 pub inside-surface : (S : Session) (s : Surface) → Inside S s → surfaceRight S s ≡ true
@@ -155,26 +182,29 @@ inside-surface S s h =
       lt-ltb (s .texture) (S .textureCount) (h .texture),
       lt-ltb (s .mip) (S .texture (s .texture) .mips) (h .mip),
       lt-ltb (s .layer) (arrayLayers (S .texture (s .texture))) (h .layer),
+      lt-ltb (s .slice) (slicesIn (S .texture (s .texture)) (s .mip)) (h .slice),
     )
 
--- The five tests of a range.
+-- The six tests of a range.
 pub range-from : (S : Session) (r : Range) → ltb (r .texture) (S .textureCount) ≡ true
     → leb 1 (r .mips) ≡ true → leb (r .mip + r .mips) (S .texture (r .texture) .mips) ≡ true
-    → leb 1 (r .layers) ≡ true → leb (r .layer + r .layers) (arrayLayers (S .texture (r .texture))) ≡ true → RangeInside S r
-range-from S r texture some-mip mips some-layer layers = record {
+    → leb 1 (r .layers) ≡ true → leb (r .layer + r .layers) (arrayLayers (S .texture (r .texture))) ≡ true
+    → r .slice < slicesIn (S .texture (r .texture)) (r .mip + r .mips - 1) → RangeInside S r
+range-from S r texture some-mip mips some-layer layers slice = record {
   texture = ltb-true (r .texture) (S .textureCount) texture;
   some-mip = leb-true 1 (r .mips) some-mip;
   mips = leb-true (r .mip + r .mips) (S .texture (r .texture) .mips) mips;
   some-layer = leb-true 1 (r .layers) some-layer;
   layers = leb-true (r .layer + r .layers) (arrayLayers (S .texture (r .texture))) layers;
+  slice = slice;
 }
 
 pub range-inside : (S : Session) (r : Range) → rangeRight S r ≡ true → RangeInside S r
 unfolding rangeRight
 range-inside S r h =
     let t : Texture = S .texture (r .texture) in
-    let test = each (ltb (r .texture) (S .textureCount) ∷ leb 1 (r .mips) ∷ leb (r .mip + r .mips) (t .mips) ∷ leb 1 (r .layers) ∷ leb (r .layer + r .layers) (arrayLayers t) ∷ []) h in
-    range-from S r (test 0) (test 1) (test 2) (test 3) (test 4)
+    let test = each (ltb (r .texture) (S .textureCount) ∷ leb 1 (r .mips) ∷ leb (r .mip + r .mips) (t .mips) ∷ leb 1 (r .layers) ∷ leb (r .layer + r .layers) (arrayLayers t) ∷ ltb (r .slice) (slicesIn t (r .mip + r .mips - 1)) ∷ []) h in
+    range-from S r (test 0) (test 1) (test 2) (test 3) (test 4) (ltb-true (r .slice) (slicesIn t (r .mip + r .mips - 1)) (test 5))
 
 pub inside-range : (S : Session) (r : Range) → RangeInside S r → rangeRight S r ≡ true
 unfolding rangeRight
@@ -185,4 +215,5 @@ inside-range S r h =
       le-leb (r .mip + r .mips) (S .texture (r .texture) .mips) (h .mips),
       le-leb 1 (r .layers) (h .some-layer),
       le-leb (r .layer + r .layers) (arrayLayers (S .texture (r .texture))) (h .layers),
+      lt-ltb (r .slice) (slicesIn (S .texture (r .texture)) (r .mip + r .mips - 1)) (h .slice),
     )

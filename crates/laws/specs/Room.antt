@@ -1,9 +1,10 @@
 -- What attachments reach; how many entries the clears, the actions and the discards have, and how many a pass may add.
 use Prim.Native.Nat.{ℕ, _+_}
 use mathlib.Core.List.{List, [], _∷_}
-use mathlib.Core.Bool.{Bool, false, _||_, cond}
+use mathlib.Core.Path.{_≡_}
+use mathlib.Core.Bool.{Bool, true, false, _||_, cond}
 use lib.ListN.{length}
-use Rattle.definition.specs.Surfaces.{hits, named}
+use Rattle.definition.specs.Surfaces.{hits, named, elem}
 use Rattle.definition.specs.MemoryInit.{Lists}
 use Rattle.definition.specs.Attachments.{Attached, rangeIn, discards}
 use Rattle.definition.specs.declared.Surface.{Surface}
@@ -15,6 +16,11 @@ reaches x s = hits (rangeIn x) s
 abbrev pub reached : Surface → List Attached → Bool
 reached s [] = false
 reached s (x ∷ xs) = reaches x s || reached s xs
+
+-- No surface is reached twice: what one reaches no later one does, and what it lists it reaches.
+abbrev pub Separate : List Attached → Type 0
+Separate [] = Unit {0}
+Separate (x ∷ xs) = ((s : Surface) → reaches x s ≡ true → reached s xs ≡ false) × ((s : Surface) → elem s (named (rangeIn x)) ≡ true → reaches x s ≡ true) × Separate xs
 
 -- Entries among the clears and the discards.
 abbrev pub held : Lists → ℕ

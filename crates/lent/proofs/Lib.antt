@@ -2,4 +2,5 @@
 pub mod Numbers
 pub mod Turns
 pub mod Reading
+pub mod Fits
 pub mod Packing

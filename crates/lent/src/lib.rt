@@ -6,7 +6,7 @@ pub mod right;
 pub mod state;
 
 use wire::put_u32;
-use wire::u32_at;
+use wire::u32_inside;
 ghost use mathlib.Core.Path.{_≡_};
 ghost use Prim.Native.Nat.{_+_, _*_, _≤_, _<_};
 ghost use lib.ListN.{length, take, drop};
@@ -20,7 +20,7 @@ pub fn read_numbers(b: &[u8], at: usize, n: usize, out: &mut [u32])
 {
     let mut i: usize = 0;
     while i < n {
-        out[i] = u32_at(b, at + 4 * i);
+        out[i] = u32_inside(b, at + 4 * i);
         i += 1;
     }
 }

@@ -1,56 +1,110 @@
 // Number 6: whether the counts, the records and the status bytes that a caller lends are within range.
-// Each test is the definition's, of the lists that the lent bytes stand for, and reads a record where it stands in them.
+// Each test is the definition's, of the lists that the lent bytes stand for, and reads a record where it stands in them. Texture rows lie
+// inside a session that is not refused, so that those that the records name are read untested.
+use definition::MemoryInitKind;
 use definition::Range;
 use definition::Surface;
+use definition::Texture;
 use definition::sizes::ACTION_BYTES;
 use definition::sizes::COUNT_BYTES;
+use definition::sizes::HEADER_BYTES;
 use definition::sizes::MAX_ACTIONS;
 use definition::sizes::MAX_CLEARS;
 use definition::sizes::MAX_DISCARDS;
 use definition::sizes::SURFACE_BYTES;
+use definition::sizes::TEXTURE_BYTES;
 use memory_init::Counts;
+use records::decode_kind;
 use records::layers_of;
-use session::derived::array_layers;
+use session::derived::TEXTURE_D3;
+use session::formats::mip_size;
 use session::header::texture_count;
 use session::surfaces::ends_by;
-use session::surfaces::surfaces_before;
-use session::texture;
+use session::surfaces::surfaces_in;
 use wire::u32_at;
 use wire::u32_inside;
 ghost use mathlib.Core.Path.{_≡_};
+ghost use mathlib.Core.Bool.{_&&_};
 ghost use Prim.Native.Nat.{ℕ, _+_, _*_, _≤_, _<_};
+ghost use lib.Dec.{leb, ltb};
 ghost use lib.ListN.{length};
 ghost use Rattle.definition.specs.Sizes.{maxSurfaces, surfaceNumbers, actionNumbers, countBytes, listBytes};
-ghost use Rattle.definition.specs.Session.{session, surfaceCount};
+ghost use Rattle.definition.specs.Session.{session, arrayLayers, slicesIn, surfaceCount};
 ghost use Rattle.definition.specs.Calls.{surfaceRight, rangeRight, surfacesRight, actionsRight, bytesRight};
 ghost use Rattle.records.specs.Lent.{surfaces, actions, surfaceIn, actionIn};
 ghost use Rattle.lent.specs.Numbers.{numbersAt};
 ghost use Rattle.lent.specs.Packed.{numbersIn};
-ghost use Rattle.lent.specs.Right.{countsFit, countsIn, right, Long};
+ghost use Rattle.lent.specs.Right.{RowsInside, surfaceFits, rangeFits, countsFit, countsIn, right, Long};
 
-// The session has the surface.
-fn surface_right(s: &[u8], x: Surface) -> bool
-    ensures { λ r. ⌜ r ≡ surfaceRight (session (now (s .entry))) x ⌝ }
+// The mip has so many layers from the first on, and the slice. A 3D texture has one layer, any other one slice.
+fn reaches(t: Texture, mip: u32, layer: u32, layers: u32, slice: u32) -> bool
+    ensures { λ r. ⌜ r ≡ (leb (layer + layers) (arrayLayers t) && ltb slice (slicesIn t mip)) ⌝ }
 {
-    let t = texture(s, x.texture);
-    (x.texture < texture_count(s)) & (x.mip < t.mips) & (x.layer < array_layers(t))
+    if t.dimension == TEXTURE_D3 {
+        return ends_by(layer, layers, 1) & (slice < mip_size(t.depth, mip));
+    }
+    ends_by(layer, layers, t.depth) & (slice < 1)
 }
 
-// The session has the range, and the range is not empty.
+// The texture has the surface.
+fn surface_fits(t: Texture, x: Surface) -> bool
+    ensures { λ r. ⌜ r ≡ surfaceFits t x ⌝ }
+{
+    (x.mip < t.mips) & reaches(t, x.mip, x.layer, 1, x.slice)
+}
+
+// The texture has the range, and the range is not empty. The slice is the last mip's, which is there where the mips are the texture's.
+fn range_fits(t: Texture, x: Range) -> bool
+    ensures { λ r. ⌜ r ≡ rangeFits t x ⌝ }
+{
+    if !((1 <= x.mips) & ends_by(x.mip, x.mips, t.mips)) {
+        return false;
+    }
+    (1 <= x.layers) & reaches(t, x.mip + x.mips - 1, x.layer, x.layers, x.slice)
+}
+
+// Texture row k, which lies inside.
+fn texture_inside(s: &[u8], k: u32) -> Texture
+    requires { ⌜ RowsInside (k + 1) (now s) ⌝ }
+    ensures { λ r. ⌜ r ≡ session (now (s .entry)) .texture k ⌝ }
+{
+    let at = HEADER_BYTES + TEXTURE_BYTES * (k as usize);
+    Texture {
+        format: u32_inside(s, at),
+        dimension: u32_inside(s, at + 4),
+        width: u32_inside(s, at + 8),
+        height: u32_inside(s, at + 12),
+        depth: u32_inside(s, at + 16),
+        mips: u32_inside(s, at + 20),
+        samples: u32_inside(s, at + 24),
+        usage: u32_inside(s, at + 28),
+    }
+}
+
+// The session, whose texture rows lie inside, has the surface.
+pub fn surface_right(s: &[u8], x: Surface) -> bool
+    requires { ⌜ RowsInside (session (now s) .textureCount) (now s) ⌝ }
+    ensures { λ r. ⌜ r ≡ surfaceRight (session (now (s .entry))) x ⌝ }
+{
+    if x.texture >= texture_count(s) {
+        return false;
+    }
+    surface_fits(texture_inside(s, x.texture), x)
+}
+
+// It has the range, and the range is not empty.
 fn range_right(s: &[u8], x: Range) -> bool
+    requires { ⌜ RowsInside (session (now s) .textureCount) (now s) ⌝ }
     ensures { λ r. ⌜ r ≡ rangeRight (session (now (s .entry))) x ⌝ }
 {
-    let t = texture(s, x.texture);
-    let layers = array_layers(t);
-    (x.texture < texture_count(s))
-        & (1 <= x.mips)
-        & ends_by(x.mip, x.mips, t.mips)
-        & (1 <= x.layers)
-        & ends_by(x.layer, x.layers, layers)
+    if x.texture >= texture_count(s) {
+        return false;
+    }
+    range_fits(texture_inside(s, x.texture), x)
 }
 
 // The surface at place i of a lent list, which lies inside.
-fn surface_in(b: &[u8], i: usize) -> Surface
+pub fn surface_in(b: &[u8], i: usize) -> Surface
     requires { ⌜ listBytes surfaceNumbers (i + 1) ≤ length (now b) ⌝ }
     ensures { λ r. ⌜ ((n : ℕ) → i < n → r ≡ surfaceIn i (numbersAt (now (b .entry)) countBytes (surfaceNumbers * n))) ⌝ }
 {
@@ -59,11 +113,12 @@ fn surface_in(b: &[u8], i: usize) -> Surface
         texture: u32_inside(b, at),
         mip: u32_inside(b, at + 4),
         layer: u32_inside(b, at + 8),
+        slice: u32_inside(b, at + 12),
     }
 }
 
 // The range of the action at place i of a lent list, which lies inside.
-fn range_in(b: &[u8], i: usize) -> Range
+pub fn range_in(b: &[u8], i: usize) -> Range
     requires { ⌜ listBytes actionNumbers (i + 1) ≤ length (now b) ⌝ }
     ensures { λ r. ⌜ ((n : ℕ) → i < n → r ≡ actionIn i (numbersAt (now (b .entry)) countBytes (actionNumbers * n)) .range) ⌝ }
 {
@@ -74,12 +129,21 @@ fn range_in(b: &[u8], i: usize) -> Range
         mips: u32_inside(b, at + 8),
         layer: u32_inside(b, at + 12),
         layers: layers_of(u32_inside(b, at + 20), u32_inside(b, at + 16)),
+        slice: u32_inside(b, at + 24),
     }
+}
+
+// The kind of the action at place i of a lent list, which lies inside.
+pub fn kind_in(b: &[u8], i: usize) -> MemoryInitKind
+    requires { ⌜ listBytes actionNumbers (i + 1) ≤ length (now b) ⌝ }
+    ensures { λ r. ⌜ ((n : ℕ) → i < n → r ≡ actionIn i (numbersAt (now (b .entry)) countBytes (actionNumbers * n)) .kind) ⌝ }
+{
+    decode_kind(u32_inside(b, COUNT_BYTES + ACTION_BYTES * i + 20))
 }
 
 // The first n surfaces of a lent list.
 fn surfaces_right(s: &[u8], b: &[u8], n: usize) -> bool
-    requires { ⌜ listBytes surfaceNumbers n ≤ length (now b) ⌝ }
+    requires { ⌜ RowsInside (session (now s) .textureCount) (now s) × (listBytes surfaceNumbers n ≤ length (now b)) ⌝ }
     ensures { λ r. ⌜
         r ≡ surfacesRight (session (now (s .entry))) (surfaces n (numbersAt (now (b .entry)) countBytes (surfaceNumbers * n))) ⌝ }
 {
@@ -94,7 +158,7 @@ fn surfaces_right(s: &[u8], b: &[u8], n: usize) -> bool
 
 // The ranges of the first n actions of a lent list.
 fn actions_right(s: &[u8], b: &[u8], n: usize) -> bool
-    requires { ⌜ listBytes actionNumbers n ≤ length (now b) ⌝ }
+    requires { ⌜ RowsInside (session (now s) .textureCount) (now s) × (listBytes actionNumbers n ≤ length (now b)) ⌝ }
     ensures { λ r. ⌜
         r ≡ actionsRight (session (now (s .entry))) (actions n (numbersAt (now (b .entry)) countBytes (actionNumbers * n))) ⌝ }
 {
@@ -141,10 +205,17 @@ fn counts_right(n: Counts) -> bool
 
 // How many surfaces a session has that is not refused.
 fn surface_count(s: &[u8]) -> usize
-    requires { ⌜ surfaceCount (session (now s)) ≤ maxSurfaces ⌝ }
+    requires { ⌜ RowsInside (session (now s) .textureCount) (now s) × (surfaceCount (session (now s)) ≤ maxSurfaces) ⌝ }
     ensures { λ r. ⌜ r ≡ surfaceCount (session (now (s .entry))) ⌝ }
 {
-    surfaces_before(s, texture_count(s)) as usize
+    let n = texture_count(s);
+    let mut sum = 0u64;
+    let mut k = 0u32;
+    while k < n {
+        sum += surfaces_in(texture_inside(s, k));
+        k += 1;
+    }
+    sum as usize
 }
 
 // Everything that is lent. Records are looked at where the counts are within the room.
@@ -159,7 +230,7 @@ pub fn lent_right(
     requires { ⌜ n ≡ countsIn (now discards) (now actions) (now clears) ⌝ }
     requires { ⌜
         Long (now discards) (now actions) (now clears) (now status)
-        × (surfaceCount (session (now s)) ≤ maxSurfaces) ⌝ }
+        × (RowsInside (session (now s) .textureCount) (now s) × (surfaceCount (session (now s)) ≤ maxSurfaces)) ⌝ }
     ensures { λ r. ⌜
         (let d = numbersIn surfaceNumbers (now (discards .entry)) in
         let a = numbersIn actionNumbers (now (actions .entry)) in

@@ -16,20 +16,20 @@ use Rattle.memory_init.specs.Slices.{numbers}
 
 -- What a slice has past its end.
 abbrev pub none : Surface
-none = surfaceAt 0 0 0
+none = surfaceAt 0 0 0 0
 
 -- The place of the next record.
-further : (i : ℕ) → surfaceNumbers * suc i ≡ suc (suc (suc (surfaceNumbers * i)))
+further : (i : ℕ) → surfaceNumbers * suc i ≡ suc (suc (suc (suc (surfaceNumbers * i))))
 further i = omega arith
 
 pub numbers-length : (l : List Surface) → length (numbers l) ≡ surfaceNumbers * length l
 numbers-length [] = refl
-numbers-length (x ∷ l) = ap (λ (q : ℕ). suc (suc (suc q))) (numbers-length l) ∙ sym (further (length l))
+numbers-length (x ∷ l) = ap (λ (q : ℕ). suc (suc (suc (suc q)))) (numbers-length l) ∙ sym (further (length l))
 
 pub numbers-set : (l : List Surface) (i : ℕ) (s : Surface) → numbers (set l i s) ≡ sets (numbers l) (surfaceNumbers * i) (encodeSurface s)
 numbers-set [] i s = refl
 numbers-set (x ∷ l) zero s = refl
-numbers-set (x ∷ l) (suc i) s = ap (λ q. x .texture ∷ x .mip ∷ x .layer ∷ q) (numbers-set l i s) ∙ ap (λ (q : ℕ). sets (numbers (x ∷ l)) q (encodeSurface s)) (sym (further i))
+numbers-set (x ∷ l) (suc i) s = ap (λ q. x .texture ∷ x .mip ∷ x .layer ∷ x .slice ∷ q) (numbers-set l i s) ∙ ap (λ (q : ℕ). sets (numbers (x ∷ l)) q (encodeSurface s)) (sym (further i))
 
 -- The record at place i is read.
 pub numbers-at : (l : List Surface) (i : ℕ) → i < length l → getD l i none ≡ surfaceIn i (numbers l)

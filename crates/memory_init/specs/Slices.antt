@@ -14,12 +14,12 @@ use Rattle.records.specs.Lent.{decodeSurface}
 use Rattle.memory_init.specs.declared.texture_surface_discards.TextureInitRange.{TextureInitRange}
 
 abbrev pub rangeOf : TextureInitRange → Range
-rangeOf r = rangeAt (r .texture) (r .mip) (r .mips) (r .layer) (r .layers)
+rangeOf r = rangeAt (r .texture) (r .mip) (r .mips) (r .layer) (r .layers) (r .slice)
 
 -- The records' numbers.
 abbrev pub numbers : List Surface → List ℕ
 numbers [] = []
-numbers (s ∷ l) = s .texture ∷ s .mip ∷ s .layer ∷ numbers l
+numbers (s ∷ l) = s .texture ∷ s .mip ∷ s .layer ∷ s .slice ∷ numbers l
 
 -- A discard is appended where there is room, as in the flat list, so that the slice has the first n and the discard; else the slice stays.
 pub record Listed (n : ℕ) (s : Surface) (l l′ : List Surface) (r : ℕ) : Type 0 where

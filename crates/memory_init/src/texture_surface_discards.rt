@@ -16,6 +16,7 @@ pub struct TextureInitRange {
     pub mips: u32,
     pub layer: u32,
     pub layers: u32,
+    pub slice: u32,
 }
 
 // A discard outside the range stays.
@@ -28,6 +29,7 @@ fn stays(range: TextureInitRange, s: Surface) -> bool
         mips: range.mips,
         layer: range.layer,
         layers: range.layers,
+        slice: range.slice,
     };
     !hits(named, s)
 }

@@ -6,10 +6,10 @@ use mathlib.Core.Option.{none, some}
 use Prim.Native.Nat.{ℕ, zero, suc, _≤_}
 use lib.Dec.{leb, ltb}
 use borrow.Author.Tests.{leb-true}
-use Rattle.definition.specs.Sizes.{maxSlots}
+use Rattle.definition.specs.Sizes.{maxSlots, maxSurfaces}
 use Rattle.definition.specs.Formats.{isColor}
 use Rattle.definition.specs.Surfaces.{elem, meets}
-use Rattle.definition.specs.Session.{Pass, Session, isNone, strict, formatOf, textureFormat, viewRange, transient}
+use Rattle.definition.specs.Session.{Pass, Session, isNone, strict, surfaceCount, formatOf, textureFormat, attachedSlice, sliceRange, isD3, transient}
 use Rattle.definition.specs.Verdict.{resolveAt, atDepthStencil, nowhere, fine, isFine, refusedAt, _then_, unless}
 use Rattle.definition.specs.Readable.{viewsRight, channelReads, depthStencilReads, resolveReads, slotReads, slotsRead, passReads}
 use Rattle.definition.specs.Channel.{ignores, keepOf, transientOps}
@@ -25,46 +25,48 @@ use Rattle.definition.specs.declared.Verdict.{Verdict}
 use Rattle.definition.specs.declared.Progress.{Progress}
 use Rattle.laws.proofs.Tests.{clash, and-left, and-right, or-on-left, or-on-right, or-second}
 use Rattle.laws.proofs.Formats.{depth-color}
-use Rattle.laws.proofs.Surfaces.{hits-in, elem-append}
+use Rattle.laws.proofs.Surfaces.{hits-in, elem-append, named-hit}
+use Rattle.laws.proofs.Lists.{map-append}
 use Rattle.laws.proofs.Overlap.{apart-elem}
 use Rattle.laws.proofs.Verdicts.{then-left, then-right, unless-on}
 use Rattle.laws.proofs.Folds.{next-fine, next-refused}
-use Rattle.noninterference.specs.Memory.{useOf}
+use Rattle.laws.proofs.Places.{surfaces-counted}
+use Rattle.noninterference.specs.Memory.{usesOf, slotSlices, slotsSlices, passSlices}
 use Rattle.noninterference.proofs.Plans.{plannedUse}
 use Rattle.laws.specs.Surfaces.{RangeInside}
-use Rattle.laws.specs.Room.{reaches, reached}
-use Rattle.noninterference.proofs.Passes.{find, All, Distinct, all-map, all-append, distinct-append, reached-append}
+use Rattle.laws.specs.Room.{reaches, reached, Separate}
+use Rattle.noninterference.proofs.Passes.{find, All, Distinct, all-map, all-append, distinct-append, unfound, reached-append}
 use Rattle.noninterference.proofs.Sound.{Sound, Fit}
-use Rattle.noninterference.proofs.Checked.{Single, Flat, ViewFacts, view-facts, takes-reached, strict-off, ColorFacts, target-facts, color-facts, DepthFacts, depth-facts}
+use Rattle.noninterference.proofs.Checked.{Single, ViewFacts, view-facts, takes-reached, strict-off, ColorFacts, target-facts, color-facts, DepthFacts, depth-facts}
 
 -- ── one slot
 
--- Attachments of a slot, after what is taken: without 3D textures they reach no surface twice and none that is taken, and whatever they reach the slot takes.
+-- Attachments of a slot, after what is taken: they reach no surface twice and none that is taken, and whatever they reach the slot takes.
 record SlotFacts (S : Session) (taken : List Surface) (xs : List Attached) (own : List Surface) : Type 0 where
   facts : All (ColorFacts S) xs
-  distinct : Flat S → Distinct xs
-  apart : Flat S → (s : Surface) → elem s taken ≡ true → find s xs ≡ none
-  takes : Flat S → (s : Surface) → reached s xs ≡ true → elem s own ≡ true
+  distinct : Distinct xs
+  apart : (s : Surface) → elem s taken ≡ true → find s xs ≡ none
+  takes : (s : Surface) → reached s xs ≡ true → elem s own ≡ true
 
 slot-none : (S : Session) (taken own : List Surface) → SlotFacts S taken [] own
-slot-none S taken own = record { facts = tt; distinct = λ fl. tt; apart = λ fl s e. refl; takes = λ fl s e. clash {b = false} e refl }
+slot-none S taken own = record { facts = tt; distinct = tt; apart = λ s e. refl; takes = λ s e. clash {b = false} e refl }
 
 find-off : (x : Attached) (s : Surface) (xs : List Attached) → reaches x s ≡ false → find s xs ≡ none → find s (x ∷ xs) ≡ none
 find-off x s xs h g = rw h g
 
 -- One more in front, which takes t, apart from what is taken.
-slot-more : (S : Session) (taken t own : List Surface) (x : Attached) (xs : List Attached) → ColorFacts S x → (Flat S → (s : Surface) → elem s t ≡ reaches x s) → meets t taken ≡ false
+slot-more : (S : Session) (taken t own : List Surface) (x : Attached) (xs : List Attached) → ColorFacts S x → ((s : Surface) → elem s t ≡ reaches x s) → meets t taken ≡ false
     → SlotFacts S (t ++ taken) xs own → SlotFacts S taken (x ∷ xs) (own ++ t)
 slot-more S taken t own x xs c took a r = record {
   facts = (c, r .facts);
-  distinct = λ fl. (λ s h. r .apart fl s (elem-append s t taken ∙ or-on-left (elem s t) (elem s taken) (took fl s ∙ h)), r .distinct fl);
-  apart = λ fl s h. find-off x s xs (sym (took fl s) ∙ apart-elem t taken s a h) (r .apart fl s (elem-append s t taken ∙ or-on-right (elem s t) (elem s taken) h));
-  takes = λ fl s h. elem-append s own t ∙ go fl s (reaches x s) refl h;
+  distinct = (λ s h. r .apart s (elem-append s t taken ∙ or-on-left (elem s t) (elem s taken) (took s ∙ h)), r .distinct);
+  apart = λ s h. find-off x s xs (sym (took s) ∙ apart-elem t taken s a h) (r .apart s (elem-append s t taken ∙ or-on-right (elem s t) (elem s taken) h));
+  takes = λ s h. elem-append s own t ∙ go s (reaches x s) refl h;
 }
   where
-    go : Flat S → (s : Surface) (b : Bool) → reaches x s ≡ b → (reaches x s || reached s xs) ≡ true → (elem s own || elem s t) ≡ true
-    go fl s true f h = or-on-right (elem s own) (elem s t) (took fl s ∙ f)
-    go fl s false f h = or-on-left (elem s own) (elem s t) (r .takes fl s (or-second (reaches x s) (reached s xs) h f))
+    go : (s : Surface) (b : Bool) → reaches x s ≡ b → (reaches x s || reached s xs) ≡ true → (elem s own || elem s t) ≡ true
+    go s true f h = or-on-right (elem s own) (elem s t) (took s ∙ f)
+    go s false f h = or-on-left (elem s own) (elem s t) (r .takes s (or-second (reaches x s) (reached s xs) h f))
 
 abbrev fineStep : Progress → Bool
 fineStep a = isFine (a .verdict)
@@ -84,13 +86,12 @@ module _ (S : Session) (vs : viewsRight S ≡ true) where
 
       go : (b : Bool) → isNone (s .resolve) ≡ b
           → fineStep (cond b (progress fine q) (progress (resolveView S q before v r (resolveAt k)) q)) ≡ true
-          → SlotFacts S before (cond b [] (resolveTo (s .resolve) (viewRange r) ∷ [])) (cond b [] (takes r 0))
+          → SlotFacts S before (cond b [] (resolveTo (s .resolve) (sliceRange r 0) ∷ [])) (cond b [] (takes r 0))
       go true e h = slot-none S before []
       go false e h =
           let known : ViewFacts S r = view-facts S vs (s .resolve) (or-second (isNone (s .resolve)) (ltb (s .resolve) (S .viewCount)) ok e) in
-          let f : ColorFacts S (resolveTo (s .resolve) (viewRange r)) × (meets (takes r 0) before ≡ false) = target-facts S v (s .resolve) (resolveAt k) q before known col h in
-          slot-more S before (takes r 0) [] (resolveTo (s .resolve) (viewRange r)) [] (f .0) (λ fl. takes-reached r 0 (f .0 .mip) (known .flat fl)) (f .1)
-          (slot-none S (takes r 0 ++ before) [])
+          let f : ColorFacts S (resolveTo (s .resolve) (sliceRange r 0)) × (meets (takes r 0) before ≡ false) = target-facts S v (s .resolve) (resolveAt k) q before known col h in
+          slot-more S before (takes r 0) [] (resolveTo (s .resolve) (sliceRange r 0)) [] (f .0) (takes-reached r 0 (f .0 .mip)) (f .1) (slot-none S (takes r 0 ++ before) [])
 
   -- Slot k of a pass.
   slot-facts : (p : Pass) (fit : Bool) (k : ℕ) (q : Seen) → slotReads S (p .slot k) ≡ true → isFine (slotOps S (p .slot k) k) ≡ true → fineStep (slotStep S p fit k q) ≡ true
@@ -124,7 +125,7 @@ module _ (S : Session) (vs : viewsRight S ≡ true) where
           let known : ViewFacts S v = view-facts S vs (s .view) (and-left (ltb (s .view) (S .viewCount)) (leb (s .sliced) 1) r3) in
           let cares : strict S ≡ true → ignores (slotLoad s) ≡ false = strict-off (ignores (slotLoad s)) (strict S) (unless-on (not (ignores (slotLoad s) && strict S)) 11 k refl (then-left _ _ ops)) in
           let f : ColorFacts S (colorOf S s) × (meets (takes v (s .slice)) taken ≡ false) × (isColor (formatOf v) ≡ true) = color-facts S s k q fit taken known cares e in
-          slot-more S taken (takes v (s .slice)) (resolveTakes S s) (colorOf S s) (resolvePart S s) (f .0) (λ fl. takes-reached v (s .slice) (f .0 .mip) (known .flat fl)) (f .1)
+          slot-more S taken (takes v (s .slice)) (resolveTakes S s) (colorOf S s) (resolvePart S s) (f .0) (takes-reached v (s .slice) (f .0 .mip)) (f .1)
           (resolve-facts s k v (seeView S q v k) taken (and-right (ltb (s .view) (S .viewCount) && leb (s .sliced) 1) (resolveReads S (s .resolve)) r2) (f .2) h)
 
       go : (b : Bool) → (b || reads) ≡ true → isFine (cond b fine allowed) ≡ true
@@ -137,8 +138,8 @@ module _ (S : Session) (vs : viewsRight S ≡ true) where
 
   record SlotsFacts (p : Pass) (n : ℕ) : Type 0 where
     facts : All (ColorFacts S) (slotParts S p n)
-    distinct : Flat S → Distinct (slotParts S p n)
-    taken : Flat S → (s : Surface) → reached s (slotParts S p n) ≡ true → elem s (takenBefore S p n) ≡ true
+    distinct : Distinct (slotParts S p n)
+    taken : (s : Surface) → reached s (slotParts S p n) ≡ true → elem s (takenBefore S p n) ≡ true
 
   -- A step is fine where what came before it is.
   next-start : (p : Pass) (fit : Bool) (k : ℕ) (a : Progress) → fineStep (nextSlot S p fit k a) ≡ true → fineStep a ≡ true
@@ -155,7 +156,7 @@ module _ (S : Session) (vs : viewsRight S ≡ true) where
 
   slots-facts : (p : Pass) (fit : Bool) (a : Progress) (n : ℕ) → slotsRead S p n ≡ true → isFine (colorOps S p n) ≡ true → fineStep (slotSteps S p fit a n) ≡ true → SlotsFacts p n
   unfolding slotsRead colorOps slotSteps slotParts takenBefore
-  slots-facts p fit a zero ok ops h = record { facts = tt; distinct = λ fl. tt; taken = λ fl s e. clash {b = false} e refl }
+  slots-facts p fit a zero ok ops h = record { facts = tt; distinct = tt; taken = λ s e. clash {b = false} e refl }
   slots-facts p fit a (suc n) ok ops h =
       let g : fineStep (slotSteps S p fit a n) ≡ true = next-start p fit n (slotSteps S p fit a n) h in
       let r : SlotsFacts p n = slots-facts p fit a n (and-left (slotsRead S p n) _ ok) (then-left (colorOps S p n) _ ops) g in
@@ -164,9 +165,9 @@ module _ (S : Session) (vs : viewsRight S ≡ true) where
       (ap fineStep (sym (next-fine S p fit n (slotSteps S p fit a n) g)) ∙ h) in
       record {
         facts = all-append (ColorFacts S) (slotParts S p n) (slotPart S (p .slot n)) (r .facts) (f .facts);
-        distinct = λ fl. distinct-append (slotParts S p n) (slotPart S (p .slot n)) (r .distinct fl) (f .distinct fl) (λ s e. f .apart fl s (r .taken fl s e));
-        taken = λ fl s e. elem-append s (slotTakes S (p .slot n)) (takenBefore S p n)
-            ∙ either s (reached s (slotParts S p n)) refl (sym (reached-append s (slotParts S p n) (slotPart S (p .slot n))) ∙ e) (r .taken fl s) (f .takes fl s);
+        distinct = distinct-append (slotParts S p n) (slotPart S (p .slot n)) (r .distinct) (f .distinct) (λ s e. f .apart s (r .taken s e));
+        taken = λ s e. elem-append s (slotTakes S (p .slot n)) (takenBefore S p n)
+            ∙ either s (reached s (slotParts S p n)) refl (sym (reached-append s (slotParts S p n) (slotPart S (p .slot n))) ∙ e) (r .taken s) (f .takes s);
       }
     where
       either : (s : Surface) (b : Bool) → reached s (slotParts S p n) ≡ b → (reached s (slotParts S p n) || reached s (slotPart S (p .slot n))) ≡ true
@@ -180,10 +181,9 @@ module _ (S : Session) (vs : viewsRight S ≡ true) where
 -- ── the parts of an accepted pass
 
 -- 5.
-pub record Reads (S : Session) (p : Pass) : Type 0 where
-  pub colors : p .colors ≤ maxSlots
-  pub depth : depthStencilReads S p ≡ true
-  pub slots : slotsRead S p (p .colors) ≡ true
+record Reads (S : Session) (p : Pass) : Type 0 where
+  depth : depthStencilReads S p ≡ true
+  slots : slotsRead S p (p .colors) ≡ true
 
 reads-parts : (S : Session) (p : Pass) → passReads S p ≡ true → Reads S p
 unfolding passReads
@@ -191,7 +191,6 @@ reads-parts S p h = go (leb (p .colors) maxSlots) refl h
   where
     go : (b : Bool) → leb (p .colors) maxSlots ≡ b → cond b (leb (p .ends) 1 && depthStencilReads S p && slotsRead S p (p .colors)) false ≡ true → Reads S p
     go true e h = record {
-      colors = leb-true (p .colors) maxSlots e;
       depth = and-right (leb (p .ends) 1) (depthStencilReads S p) (and-left (leb (p .ends) 1 && depthStencilReads S p) _ h);
       slots = and-right (leb (p .ends) 1 && depthStencilReads S p) _ h;
     }
@@ -220,10 +219,11 @@ check-parts S p h = go (passReads S p) refl (isFine (opsVerdict S p)) refl h
           steps = then-left _ _ h;
         }
 
-pub check-reads : (S : Session) (p : Pass) → isFine (check S p .verdict) ≡ true → Reads S p
-check-reads S p h = check-parts S p h .reads
-
 -- ── whatever is accepted is sound
+
+-- The slice of an attachment.
+abbrev sliceIn : Attached → ℕ
+sliceIn x = rangeIn x .slice
 
 -- Of one mip, inside the session.
 pub record Ranged (S : Session) (x : Attached) : Type 0 where
@@ -234,10 +234,41 @@ pub record Ranged (S : Session) (x : Attached) : Type 0 where
 pub record Okay (S : Session) (xs : List Attached) : Type 0 where
   pub sound : strict S ≡ true → Single S → All (Sound S) xs
   pub ranged : All (Ranged S) xs
-  pub distinct : Flat S → Distinct xs
-  pub told : map (useOf S (ofFirst 0 divergentOf xs)) (map (attachmentReply S) xs) ≡ map plannedUse xs
+  pub distinct : Distinct xs
+  pub told : usesOf S (ofFirst 0 divergentOf xs) (map sliceIn xs) (map (attachmentReply S) xs) ≡ map plannedUse xs
 
-all-told : (S : Session) (d : ℕ) (xs : List Attached) → All (ColorFacts S) xs → map (useOf S d) (map (attachmentReply S) xs) ≡ map plannedUse xs
+-- The slices of the attachments are those that the memory is told.
+target-slice : (S : Session) (c : Slot) (b : Bool) → _≡_ {A = List ℕ} (cond b [] (0 ∷ [])) (map sliceIn (cond b [] (resolveTo (c .resolve) (sliceRange (S .view (c .resolve)) 0) ∷ [])))
+target-slice S c true = refl
+target-slice S c false = ap (λ k. k ∷ []) (go (isD3 (S .view (c .resolve))))
+  where
+    go : (b : Bool) → _≡_ {A = ℕ} 0 (cond b 0 0)
+    go true = refl
+    go false = refl
+
+slot-slices : (S : Session) (c : Slot) → slotSlices S c ≡ map sliceIn (slotPart S c)
+unfolding slotPart resolvePart
+slot-slices S c = go (isNone (c .view))
+  where
+    go : (b : Bool) → cond b [] (attachedSlice (S .view (c .view)) (c .slice) ∷ cond (isNone (c .resolve)) [] (0 ∷ [])) ≡ map sliceIn (cond b [] (colorOf S c ∷ resolvePart S c))
+    go true = refl
+    go false = ap (λ l. attachedSlice (S .view (c .view)) (c .slice) ∷ l) (target-slice S c (isNone (c .resolve)))
+
+slots-slices : (S : Session) (p : Pass) (n : ℕ) → slotsSlices S p n ≡ map sliceIn (slotParts S p n)
+unfolding slotParts
+slots-slices S p zero = refl
+slots-slices S p (suc n) = ap₂ _++_ (slots-slices S p n) (slot-slices S (p .slot n)) ∙ sym (map-append sliceIn (slotParts S p n) (slotPart S (p .slot n)))
+
+pass-slices : (S : Session) (p : Pass) → passSlices S p ≡ map sliceIn (attachments S p)
+unfolding attachments depthStencilPart
+pass-slices S p = go (isNone (p .depthStencil))
+  where
+    go : (b : Bool) → _++_ {A = ℕ} (cond b [] (0 ∷ [])) (slotsSlices S p (p .colors))
+        ≡ map sliceIn (_++_ {A = Attached} (cond b [] (depthStencilOf S p (S .view (p .depthStencil)) ∷ [])) (slotParts S p (p .colors)))
+    go true = slots-slices S p (p .colors)
+    go false = ap (λ l. 0 ∷ l) (slots-slices S p (p .colors))
+
+all-told : (S : Session) (d : ℕ) (xs : List Attached) → All (ColorFacts S) xs → usesOf S d (map sliceIn xs) (map (attachmentReply S) xs) ≡ map plannedUse xs
 all-told S d [] a = refl
 all-told S d (x ∷ xs) a = ap₂ _∷_ (a .0 .told d) (all-told S d xs (a .1))
 
@@ -287,22 +318,31 @@ accepted-okay S vs p h =
         record {
           sound = λ st one. (d .sound st one, sounds (sl .facts) st one);
           ranged = (record { range = d .range; mip = d .mip }, ranges (sl .facts));
-          distinct = λ fl. (λ s e. depth-apart S (v .texture) xs (depth-color (textureFormat S v) (d .format)) (sl .facts) s (hits-in (rangeIn x) s e .texture), sl .distinct fl);
+          distinct = (λ s e. depth-apart S (v .texture) xs (depth-color (textureFormat S v) (d .format)) (sl .facts) s (hits-in (rangeIn x) s e .texture), sl .distinct);
           told = ap₂ _∷_ (d .told (divergentOf x)) (all-told S (divergentOf x) xs (sl .facts));
         }
 
+-- ── no surface is reached twice
+
+all-separate : (S : Session) (xs : List Attached) → All (Ranged S) xs → Distinct xs → Separate xs
+all-separate S [] a d = tt
+all-separate S (x ∷ xs) a d = (λ s h. unfound s xs (d .0 s h), named-hit (rangeIn x) (a .0 .range .some-mip) (a .0 .range .some-layer), all-separate S xs (a .1) (d .1))
+
+pub pass-separate : (S : Session) → viewsRight S ≡ true → (p : Pass) → isFine (check S p .verdict) ≡ true → Separate (attachments S p)
+pass-separate S vs p h = let k : Okay S (attachments S p) = accepted-okay S vs p h in all-separate S (attachments S p) (k .ranged) (k .distinct)
+
 -- ── the theorem's conditions
 
--- Readable, strict, every view of one layer, no 3D texture.
+-- Readable, strict, every view of one layer.
 pub record Conditions (S : Session) : Type 0 where
   pub views : viewsRight S ≡ true
   pub strict : strict S ≡ true
   pub single : Single S
-  pub flat : Flat S
 
 pub conditions-fit : (S : Session) → Conditions S → Fit S
 conditions-fit S c = record {
   sound = λ p h. accepted-okay S (c .views) p h .sound (c .strict) (c .single);
-  distinct = λ p h. accepted-okay S (c .views) p h .distinct (c .flat);
-  tells = λ p h n q cl. ap (λ u. record { number = n; uses = u; clears = cl }) (accepted-okay S (c .views) p h .told);
+  distinct = λ p h. accepted-okay S (c .views) p h .distinct;
+  tells = λ p h n q cl. ap (λ u. record { number = n; uses = u; clears = cl })
+      (ap (λ ks. usesOf S (ofFirst 0 divergentOf (attachments S p)) ks (map (attachmentReply S) (attachments S p))) (pass-slices S p) ∙ accepted-okay S (c .views) p h .told);
 }

@@ -4,20 +4,22 @@ use mathlib.Core.Path.{_≡_, refl, sym, ap, ap₂, subst, _∙_}
 use mathlib.Core.Bool.{Bool, true, false, not, _&&_, _||_, cond}
 use mathlib.Core.List.{List, [], _∷_, _++_}
 use mathlib.Core.Option.{Option, none, some}
-use Prim.Native.Nat.{ℕ, _+_, _<_}
-use lib.Dec.{ltb, eqb}
+use Prim.Native.Nat.{ℕ, _+_, _-_, _<_, _≤_}
+use native.Mathlib.Omega.{arith}
+use lib.Dec.{leb, ltb, eqb}
 use lib.Ieee.{Float}
 use borrow.Author.Tests.{eqb-true, ltb-true}
 use Rattle.definition.specs.Formats.{isColor, isDepthStencil, aspects, hasDepth, hasStencil}
 use Rattle.definition.specs.Surfaces.{hits, layersOf, elem, meets}
-use Rattle.definition.specs.Session.{Pass, Session, strict, formatOf, textureFormat, viewRange, isD2, isD2Array, isD3, transient}
-use Rattle.definition.specs.Verdict.{atDepthStencil, isFine, unless}
+use Rattle.definition.specs.Session.{Pass, Session, strict, formatOf, textureFormat, slicesIn, rangeOf, attachedSlice, sliceRange, viewRange, depthOf, isD2, isD2Array, isD3, transient}
+use Rattle.definition.specs.Verdict.{atDepthStencil, isFine, _then_, unless}
 use Rattle.definition.specs.Readable.{viewsRight}
 use Rattle.definition.specs.Channel.{LoadOp, loadOp, clearOp, dontCare, Ops, operational, keepOf, ignores, loadBits, storeBits, clearValue, PassChannel, depthChannel, stencilChannel, Handled, value, refusal, resolveReadOnly, withStore, withClear, resolveOps, resolve, handleDepth, handleStencil, resolveDepth, resolveStencil, depthResolved, stencilResolved, resolvedOps}
 use Rattle.definition.specs.Views.{noneSeen, renderable, multiviewVerdict, viewVerdict, sliceVerdict, takes, overlapVerdict, depthStencilView, colorView, targetView, targetOf, resolveView}
 use Rattle.definition.specs.Check.{slotLoad, channelOps}
 use Rattle.definition.specs.Attachments.{Attached, depthStencil, color, resolveTo, depthOps, stencilOps, depthStencilOf, colorOf, rangeIn}
 use Rattle.definition.specs.Pass.{zero32, black, attachmentReply}
+use Rattle.definition.specs.declared.Texture.{Texture}
 use Rattle.definition.specs.declared.View.{View}
 use Rattle.definition.specs.declared.Channel.{Channel}
 use Rattle.definition.specs.declared.Color.{Color}
@@ -26,12 +28,12 @@ use Rattle.definition.specs.declared.Seen.{Seen}
 use Rattle.definition.specs.declared.Surface.{Surface}
 use Rattle.laws.specs.Surfaces.{RangeInside}
 use Rattle.laws.specs.Views.{ValidView}
-use Rattle.laws.proofs.Tests.{clash, and-on, not-off}
+use Rattle.laws.proofs.Tests.{clash, and-left, and-right, and-on, not-off}
 use Rattle.laws.proofs.Formats.{color-depth, color-stencil, depth-color, fits-color, fits-aspects}
 use Rattle.laws.proofs.Surfaces.{hits-in, layers-all, named-one}
 use Rattle.laws.proofs.Verdicts.{then-left, then-right, unless-on}
 use Rattle.laws.proofs.Folds.{views-each}
-use Rattle.laws.proofs.Views.{valid-view, range-surface, flat-view, renderable-mip}
+use Rattle.laws.proofs.Views.{valid-view, range-surface, slices-some, solid-view, renderable-mip}
 use Rattle.noninterference.specs.Memory.{Aspect, colorAspect, depthAspect, stencilAspect, formatHas, Clear, ofColor, ofDepth, ofStencil, nothing, Part, partIn, useOf}
 use Rattle.noninterference.proofs.Plans.{inputOf, partOf, partsOf, plannedUse, hasPart, proper}
 use Rattle.noninterference.proofs.Sound.{Sound}
@@ -70,18 +72,18 @@ part-told a f o (clearOp x) false = refl
 part-told a f o dontCare true = refl
 part-told a f o dontCare false = refl
 
-resolve-told : (S : Session) (n d : ℕ) → isColor (textureFormat S (S .view n)) ≡ true
-    → useOf S d (attachmentReply S (resolveTo n (viewRange (S .view n)))) ≡ plannedUse (resolveTo n (viewRange (S .view n)))
-resolve-told S n d h = rw h
+resolve-told : (S : Session) (n d k : ℕ) → isColor (textureFormat S (S .view n)) ≡ true
+    → useOf S d k (attachmentReply S (resolveTo n (rangeOf (S .view n) k))) ≡ plannedUse (resolveTo n (rangeOf (S .view n) k))
+resolve-told S n d k h = rw h
 
-color-told : (S : Session) (n d : ℕ) (o : Ops Color) → isColor (textureFormat S (S .view n)) ≡ true
-    → useOf S d (attachmentReply S (color n (viewRange (S .view n)) o)) ≡ plannedUse (color n (viewRange (S .view n)) o)
-color-told S n d o h =
-    rw h (ap (λ q. record { surfaces = layersOf (viewRange (S .view n)); parts = q ∷ []; divergent = 0 }) (part-told colorAspect ofColor black (o .load) (o .keep)))
+color-told : (S : Session) (n d k : ℕ) (o : Ops Color) → isColor (textureFormat S (S .view n)) ≡ true
+    → useOf S d k (attachmentReply S (color n (rangeOf (S .view n) k) o)) ≡ plannedUse (color n (rangeOf (S .view n) k) o)
+color-told S n d k o h =
+    rw h (ap (λ q. record { surfaces = layersOf (rangeOf (S .view n) k); parts = q ∷ []; divergent = 0 }) (part-told colorAspect ofColor black (o .load) (o .keep)))
 
 depth-told : (S : Session) (n : ℕ) (d : Ops Float) (s : Ops ℕ) (hd hs : Bool) (div : ℕ)
     → isColor (textureFormat S (S .view n)) ≡ false → hasDepth (textureFormat S (S .view n)) ≡ hd → hasStencil (textureFormat S (S .view n)) ≡ hs
-    → useOf S div (attachmentReply S (depthStencil n (viewRange (S .view n)) hd hs d s))
+    → useOf S div 0 (attachmentReply S (depthStencil n (viewRange (S .view n)) hd hs d s))
     ≡ record { surfaces = layersOf (viewRange (S .view n)); parts = partsOf (depthStencil n (viewRange (S .view n)) hd hs d s); divergent = div }
 depth-told S n d s hd hs div h p q =
     rw (h, p, q)
@@ -90,28 +92,19 @@ depth-told S n d s hd hs div h p q =
 
 -- ── the session's conditions
 
--- Every view has one layer; no texture is 3D.
+-- Every view has one layer.
 abbrev pub Single : Session → Type 0
 Single S = (k : ℕ) → k < S .viewCount → S .view k .layers ≡ 1
 
-abbrev pub Flat : Session → Type 0
-Flat S = (t : ℕ) → t < S .textureCount → eqb (S .texture t .dimension) 3 ≡ false
-
--- What number 4 gives of a view, and what the conditions do.
+-- What number 4 gives of a view, and what the condition does.
 pub record ViewFacts (S : Session) (v : View) : Type 0 where
   pub valid : ValidView S v
   pub single : Single S → v .layers ≡ 1
-  pub flat : Flat S → isD3 v ≡ false
 
 pub view-facts : (S : Session) → viewsRight S ≡ true → (k : ℕ) → ltb k (S .viewCount) ≡ true → ViewFacts S (S .view k)
 view-facts S vs k h =
     let g : k < S .viewCount = ltb-true k (S .viewCount) h in
-    let valid : ValidView S (S .view k) = valid-view S (S .view k) (views-each S (S .viewCount) vs k g) in
-    record {
-      valid = valid;
-      single = λ one. one k g;
-      flat = λ fl. flat-view (S .view k .dimension) (S .texture (S .view k .texture) .dimension) (valid .dimension) (fl (S .view k .texture) (valid .range .texture));
-    }
+    record { valid = valid-view S (S .view k) (views-each S (S .viewCount) vs k g); single = λ one. one k g }
 
 -- An attachment of one mip and one layer of the session. (With every layer named by a discard, the layers would not matter.)
 sound-of : (S : Session) (x : Attached) → RangeInside S (rangeIn x) → rangeIn x .mips ≡ 1 → rangeIn x .layers ≡ 1 → proper x ≡ true
@@ -124,13 +117,44 @@ sound-of S x range mip layer strict aspects = record {
   aspects = λ s e a. ap (λ t. formatHas (S .texture t .format) a) (hits-in (rangeIn x) s e .texture) ∙ aspects a;
 }
 
--- An attachment that is no slice takes what its action reaches.
-flat-takes : (v : View) (slice : ℕ) → isD3 v ≡ false → takes v slice ≡ layersOf (viewRange v)
+-- An attachment takes what its action reaches.
+pub takes-reached : (v : View) (slice : ℕ) → v .mips ≡ 1 → (s : Surface) → elem s (takes v slice) ≡ hits (sliceRange v slice) s
 unfolding takes
-flat-takes v slice h = rw (h, takes)
+takes-reached v slice mip s = layers-all (sliceRange v slice) mip s
 
-pub takes-reached : (v : View) (slice : ℕ) → v .mips ≡ 1 → isD3 v ≡ false → (s : Surface) → elem s (takes v slice) ≡ hits (viewRange v) s
-takes-reached v slice mip h s = ap (elem s) (flat-takes v slice h) ∙ layers-all (viewRange v) mip s
+-- A view of one mip at a slice of it.
+range-at : (S : Session) (v : View) (k : ℕ) → ValidView S v → v .mips ≡ 1 → k < slicesIn (S .texture (v .texture)) (v .mip) → RangeInside S (rangeOf v k)
+range-at S v k known mip h = record {
+  texture = known .range .texture;
+  some-mip = known .range .some-mip;
+  mips = known .range .mips;
+  some-layer = known .range .some-layer;
+  layers = known .range .layers;
+  slice = subst (λ m. k < slicesIn (S .texture (v .texture)) m) (let e : v .mip ≡ v .mip + v .mips - 1 = omega (arith, mip) in e) h;
+}
+
+-- 38.
+slice-inside : (S : Session) (c : Slot) (v : View) (place : ℕ) → ValidView S v → v .mips ≡ 1 → isFine (sliceVerdict S c v place) ≡ true → RangeInside S (sliceRange v (c .slice))
+unfolding sliceVerdict slicesIn
+slice-inside S c v place known mip h = range-at S v (attachedSlice v (c .slice)) known mip (go (isD3 v) refl h)
+  where
+    x : Texture
+    x = S .texture (v .texture)
+
+    go : (b : Bool) → isD3 v ≡ b
+        → isFine (cond b (unless (eqb (c .sliced) 1) 39 place then unless (ltb (c .slice) (depthOf S v)) 38 place) (unless (eqb (c .sliced) 0) 40 place)) ≡ true
+        → cond b (c .slice) 0 < slicesIn x (v .mip)
+    go true e h =
+        let d : slicesIn x (v .mip) ≡ depthOf S v = rw (solid-view (v .dimension) (x .dimension) (known .dimension) e) in
+        omega (arith, d, ltb-true (c .slice) (depthOf S v) (unless-on (ltb (c .slice) (depthOf S v)) 38 place refl (then-right (unless (eqb (c .sliced) 1) 39 place) _ h)))
+    go false e h = omega (arith, slices-some x (v .mip))
+
+target-inside : (S : Session) (v : View) → ValidView S v → v .mips ≡ 1 → RangeInside S (sliceRange v 0)
+target-inside S v known mip = range-at S v (attachedSlice v 0) known mip (go (isD3 v))
+  where
+    go : (b : Bool) → cond b 0 0 < slicesIn (S .texture (v .texture)) (v .mip)
+    go true = omega (arith, slices-some (S .texture (v .texture)) (v .mip))
+    go false = omega (arith, slices-some (S .texture (v .texture)) (v .mip))
 
 -- ── colours and resolve targets
 
@@ -139,7 +163,7 @@ pub record ColorFacts (S : Session) (x : Attached) : Type 0 where
   pub range : RangeInside S (rangeIn x)
   pub mip : rangeIn x .mips ≡ 1
   pub colored : isColor (S .texture (rangeIn x .texture) .format) ≡ true
-  pub told : (d : ℕ) → useOf S d (attachmentReply S x) ≡ plannedUse x
+  pub told : (d : ℕ) → useOf S d (rangeIn x .slice) (attachmentReply S x) ≡ plannedUse x
 
 pub strict-off : (x b : Bool) → not (x && b) ≡ true → b ≡ true → x ≡ false
 strict-off true b h e = clash e (not-off b h)
@@ -148,7 +172,7 @@ strict-off false b h e = refl
 -- A resolve target: 41, 34, 43.
 pub target-facts : (S : Session) (v : View) (n place : ℕ) (q : Seen) (taken : List Surface) → ViewFacts S (S .view n) → isColor (formatOf v) ≡ true
     → isFine (resolveView S q taken v (S .view n) place) ≡ true
-    → ColorFacts S (resolveTo n (viewRange (S .view n))) × (meets (takes (S .view n) 0) taken ≡ false)
+    → ColorFacts S (resolveTo n (sliceRange (S .view n) 0)) × (meets (takes (S .view n) 0) taken ≡ false)
 unfolding resolveView targetView targetOf overlapVerdict
 target-facts S v n place q taken known col h =
     let r : View = S .view n in
@@ -161,12 +185,12 @@ target-facts S v n place q taken known col h =
     let rcol : isColor (textureFormat S r) ≡ true = sym (fits-color (formatOf r) (textureFormat S r) (known .valid .format)) ∙ ap isColor (sym same-format) ∙ col in
     let mip : r .mips ≡ 1 = renderable-mip r (unless-on (renderable r) 34 place refl on-34) in (
       record {
-        sound = λ st one. sound-of S (resolveTo n (viewRange r)) (known .valid .range) mip (known .single one) refl
+        sound = λ st one. sound-of S (resolveTo n (sliceRange r 0)) (target-inside S r (known .valid) mip) mip (known .single one) refl
             (color-aspects (textureFormat S r) rcol (record { aspect = colorAspect; input = nothing; keep = true }) refl);
-        range = known .valid .range;
+        range = target-inside S r (known .valid) mip;
         mip = mip;
         colored = rcol;
-        told = λ d. resolve-told S n d rcol;
+        told = λ d. resolve-told S n d (attachedSlice r 0) rcol;
       },
       not-off _ (unless-on (not (meets (takes r 0) taken)) 41 place refl (then-left _ _ from-41)),
     )
@@ -183,14 +207,15 @@ color-facts S c k q fit taken known cares h =
     let from-38 = then-right (unless (isColor (formatOf v)) 37 k) _ from-37 in
     let shown : isColor (formatOf v) ≡ true = unless-on (isColor (formatOf v)) 37 k refl (then-left _ _ from-37) in
     let col : isColor (textureFormat S v) ≡ true = sym (fits-color (formatOf v) (textureFormat S v) (known .valid .format)) ∙ shown in
-    let mip : v .mips ≡ 1 = renderable-mip v (unless-on (renderable v) 34 k refl (then-left _ _ (then-left (viewVerdict S q v k) _ from-34))) in (
+    let mip : v .mips ≡ 1 = renderable-mip v (unless-on (renderable v) 34 k refl (then-left _ _ (then-left (viewVerdict S q v k) _ from-34))) in
+    let range : RangeInside S (sliceRange v (c .slice)) = slice-inside S c v k (known .valid) mip (then-left (sliceVerdict S c v k) _ from-38) in (
       record {
-        sound = λ st one. sound-of S (colorOf S c) (known .valid .range) mip (known .single one) (ap not (cares st))
+        sound = λ st one. sound-of S (colorOf S c) range mip (known .single one) (ap not (cares st))
             (color-aspects (textureFormat S v) col (partOf colorAspect ofColor (operational (slotLoad c) (keepOf (c .store)))) refl);
-        range = known .valid .range;
+        range = range;
         mip = mip;
         colored = col;
-        told = λ d. color-told S (c .view) d (operational (slotLoad c) (keepOf (c .store))) col;
+        told = λ d. color-told S (c .view) d (attachedSlice v (c .slice)) (operational (slotLoad c) (keepOf (c .store))) col;
       },
       not-off _ (unless-on (not (meets (takes v (c .slice)) taken)) 41 k refl (then-right (unless fit 51 k) _ (then-right (sliceVerdict S c v k) _ from-38))),
       shown,
@@ -243,7 +268,7 @@ pub record DepthFacts (S : Session) (p : Pass) : Type 0 where
   pub range : RangeInside S (viewRange (S .view (p .depthStencil)))
   pub mip : S .view (p .depthStencil) .mips ≡ 1
   pub format : isDepthStencil (textureFormat S (S .view (p .depthStencil))) ≡ true
-  pub told : (d : ℕ) → useOf S d (attachmentReply S (depthStencilOf S p (S .view (p .depthStencil))))
+  pub told : (d : ℕ) → useOf S d 0 (attachmentReply S (depthStencilOf S p (S .view (p .depthStencil))))
       ≡ record { surfaces = layersOf (viewRange (S .view (p .depthStencil))); parts = partsOf (depthStencilOf S p (S .view (p .depthStencil))); divergent = d }
 
 pub depth-facts : (S : Session) (p : Pass) → ViewFacts S (S .view (p .depthStencil))

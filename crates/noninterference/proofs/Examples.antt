@@ -1,6 +1,5 @@
--- The theorem applied to a file, the memory computed on small runs, and three sessions outside the theorem of which the claim is false.
+-- The theorem applied to a file, the memory computed on small runs, and two sessions outside the theorem of which the claim is false.
 use mathlib.Core.Path.{_≡_, refl, sym, _∙_}
-use mathlib.Core.Logic.{_≢_}
 use mathlib.Core.Bool.{Bool, true, false, not}
 use mathlib.Core.List.{List, [], _∷_}
 use mathlib.Core.Option.{none}
@@ -37,17 +36,12 @@ strictFile =
 -- The premises can be met.
 pub applies : Claim (session strictFile)
 unfolding computing
-applies = demand-three strictFile refl refl single flat
+applies = demand-three strictFile refl refl single
   where
     single : (k : ℕ) → k < session strictFile .viewCount → session strictFile .view k .layers ≡ 1
     single zero h = refl
     single (suc zero) h = refl
     single (suc (suc k)) h = absurd (omega arith)
-
-    flat : (t : ℕ) → t < session strictFile .textureCount → session strictFile .texture t .dimension ≢ 3
-    flat zero h = λ e. omega arith
-    flat (suc zero) h = λ e. omega arith
-    flat (suc (suc t)) h = absurd (omega arith)
 
 -- A memory of numbers: zero is 0, a clear gives 1, the pass of call n draws 100 + n; 5 is there at the start, and a discard leaves 7.
 abbrev drawing : Drawing ℕ
@@ -95,14 +89,36 @@ unfolding computing
 siblings = refl
 
 -- What is left: what was there before any submission, what a discard left, what was drawn, and the zero of the divergent aspect.
-pub remains : (memoryAfter drawing contents (session strictFile) fresh (pass 0 ∷ []) (surfaceAt 0 0 0) colorAspect
-    ∷ memoryAfter drawing contents (session strictFile) fresh (pass 0 ∷ submit ∷ []) (surfaceAt 0 0 0) colorAspect
-    ∷ memoryAfter drawing contents (session strictFile) fresh (pass 2 ∷ submit ∷ []) (surfaceAt 0 0 0) colorAspect
-    ∷ memoryAfter drawing contents (session strictFile) fresh (pass 3 ∷ submit ∷ []) (surfaceAt 1 0 0) stencilAspect
+pub remains : (memoryAfter drawing contents (session strictFile) fresh (pass 0 ∷ []) (surfaceAt 0 0 0 0) colorAspect
+    ∷ memoryAfter drawing contents (session strictFile) fresh (pass 0 ∷ submit ∷ []) (surfaceAt 0 0 0 0) colorAspect
+    ∷ memoryAfter drawing contents (session strictFile) fresh (pass 2 ∷ submit ∷ []) (surfaceAt 0 0 0 0) colorAspect
+    ∷ memoryAfter drawing contents (session strictFile) fresh (pass 3 ∷ submit ∷ []) (surfaceAt 1 0 0 0) stencilAspect
     ∷ [])
     ≡ (5 ∷ 7 ∷ 100 ∷ 0 ∷ [])
 unfolding computing
 remains = refl
+
+-- A 3D texture of four slices, two mips. Passes: 0 Clear with Discard of slice 0 and Clear with Store of slice 1; 1 Load with Store of both.
+abbrev slicesFile : List ℕ
+slicesFile =
+    file 8 0 1 (texture 3 3 4 4 2 1 16 ∷ []) (view 0 6 1 1 16 0 ∷ [])
+    (colors (sliceSlot 0 1 0 noView 1 1 ∷ sliceSlot 0 1 1 noView 1 0 ∷ []) ∷ colors (sliceSlot 0 1 0 noView 0 0 ∷ sliceSlot 0 1 1 noView 0 0 ∷ []) ∷ [])
+
+-- The discard empties its slice alone.
+pub slice-emptied : (runOf slicesFile (pass 0 ∷ pass 1 ∷ submit ∷ [])
+    ∷ runOf slicesFile (pass 0 ∷ submit ∷ pass 1 ∷ submit ∷ [])
+    ∷ [])
+    ≡ (((1 ∷ 1 ∷ []) ∷ (0 ∷ 100 ∷ []) ∷ []) ∷ ((1 ∷ 1 ∷ []) ∷ (0 ∷ 100 ∷ []) ∷ []) ∷ [])
+unfolding computing
+slice-emptied = refl
+
+pub slices-apply : Claim (session slicesFile)
+unfolding computing
+slices-apply = demand-three slicesFile refl refl single
+  where
+    single : (k : ℕ) → k < session slicesFile .viewCount → session slicesFile .view k .layers ≡ 1
+    single zero h = refl
+    single (suc k) h = absurd (omega arith)
 
 -- ── outside it
 
@@ -128,7 +144,7 @@ looseFile =
 
 pub not-loose : Fails looseFile
 unfolding computing
-not-loose = marked-wrong looseFile (pass 0 ∷ submit ∷ []) 2 (surfaceAt 0 0 0) false refl (record { texture = omega arith; mip = omega arith; layer = omega arith }) refl refl
+not-loose = marked-wrong looseFile (pass 0 ∷ submit ∷ []) 2 (surfaceAt 0 0 0 0) false refl (record { texture = omega arith; mip = omega arith; layer = omega arith; slice = omega arith }) refl refl
 
 -- Two layers: a discard names the first layer alone, so the second stays marked filled.
 abbrev layersFile : List ℕ
@@ -137,13 +153,4 @@ layersFile =
 
 pub not-layers : Fails layersFile
 unfolding computing
-not-layers = marked-wrong layersFile (pass 0 ∷ submit ∷ pass 1 ∷ submit ∷ []) 4 (surfaceAt 0 0 1) true refl (record { texture = omega arith; mip = omega arith; layer = omega arith }) refl refl
-
--- A 3D texture: two slices are one surface. Clear with Discard of the first, Clear with Store of the second, and the discard is gone.
-abbrev slicesFile : List ℕ
-slicesFile =
-    file 8 0 1 (texture 3 3 4 4 1 1 16 ∷ []) (view 0 6 1 1 16 0 ∷ []) (colors (sliceSlot 0 1 0 noView 1 1 ∷ sliceSlot 0 1 1 noView 1 0 ∷ []) ∷ [])
-
-pub not-slices : Fails slicesFile
-unfolding computing
-not-slices = marked-wrong slicesFile (pass 0 ∷ submit ∷ []) 2 (surfaceAt 0 0 0) true refl (record { texture = omega arith; mip = omega arith; layer = omega arith }) refl refl
+not-layers = marked-wrong layersFile (pass 0 ∷ submit ∷ pass 1 ∷ submit ∷ []) 4 (surfaceAt 0 0 1 0) true refl (record { texture = omega arith; mip = omega arith; layer = omega arith; slice = omega arith }) refl refl

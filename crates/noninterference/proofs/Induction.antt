@@ -32,69 +32,74 @@ module _ {Val : Type 0} (D : Drawing Val) (left left′ : ℕ → Cells Val) (S 
   abbrev Rest : List Call → ℕ → Type 0
   Rest cs n =
       (σ : State) (hs ws : List Told) (m m′ : Cells Val) → Inv D left left′ S σ hs ws m m′
-      → Going D left left′ S (events S n (answers S cs σ)) (after S cs σ) hs ws m m′
+      → Going D left left′ S (events S n cs (answers S cs σ)) (after S cs σ) hs ws m m′
 
   module _ (fit : Fit S) (cs : List Call) (n : ℕ) (rest : Rest cs (n + 1)) (σ : State) (hs ws : List Told) (m m′ : Cells Val)
       (inv : Inv D left left′ S σ hs ws m m′) where
     abbrev AfterEvent : Event → State → Type 0
-    AfterEvent e τ = Going D left left′ S (e ∷ events S (n + 1) (answers S cs τ)) (after S cs τ) hs ws m m′
+    AfterEvent e τ = Going D left left′ S (e ∷ events S (n + 1) cs (answers S cs τ)) (after S cs τ) hs ws m m′
 
-    abbrev After : Step → Type 0
-    After t = AfterEvent (event S n (t .answer)) (t .state)
+    abbrev After : Call → Step → Type 0
+    After c t = AfterEvent (event S n c (t .answer)) (t .state)
 
     -- A refused call does nothing.
-    after-refused : (a : Answer) → event S n a ≡ refused → After (record { state = σ; answer = a })
-    after-refused a e =
-        let g : Going D left left′ S (events S (n + 1) (answers S cs σ)) (after S cs σ) hs ws m m′ = rest σ hs ws m m′ inv in
+    after-refused : (c : Call) (a : Answer) → event S n c a ≡ refused → After c (record { state = σ; answer = a })
+    after-refused c a e =
+        let g : Going D left left′ S (events S (n + 1) cs (answers S cs σ)) (after S cs σ) hs ws m m′ = rest σ hs ws m m′ inv in
         subst (λ v. AfterEvent v σ) (sym e) (record { loads = g .loads; marks = g .marks; equal = g .equal })
 
     -- An accepted pass waits.
     after-pass : (xs : List Attached) (so : All (Sound S) xs) (di : Distinct xs) → AfterEvent (accepted (now D left left′ S xs so di σ n)) (passState xs σ)
     after-pass xs so di =
         let w : Told = now D left left′ S xs so di σ n in
-        let g : Going D left left′ S (events S (n + 1) (answers S cs (passState xs σ))) (after S cs (passState xs σ)) hs (ws ++ (w ∷ [])) m m′ =
+        let g : Going D left left′ S (events S (n + 1) cs (answers S cs (passState xs σ))) (after S cs (passState xs σ)) hs (ws ++ (w ∷ [])) m m′ =
         rest (passState xs σ) hs (ws ++ (w ∷ [])) m m′ (pass-inv D left left′ S xs so di σ n hs ws m m′ inv) in
         record { loads = g .loads; marks = g .marks; equal = g .equal }
 
-    after-accepted : (p : Pass) → isFine (check S p .verdict) ≡ true → After (passStep (acceptedPass S (check S p .seen) (attachments S p) (σ .lists)) σ)
-    after-accepted p e =
+    after-accepted : (i : ℕ) → isFine (check S (S .pass i) .verdict) ≡ true
+        → After (pass i) (passStep (acceptedPass S (check S (S .pass i) .seen) (attachments S (S .pass i)) (σ .lists)) σ)
+    after-accepted i e =
+        let p : Pass = S .pass i in
         subst (λ v. AfterEvent (accepted v) (passState (attachments S p) σ)) (sym (fit .tells p e n (check S p .seen) _))
         (after-pass (attachments S p) (fit .sound p e) (fit .distinct p e))
 
-    after-check : (p : Pass) → After (passStep (checkPass S p (σ .lists)) σ)
+    after-check : (i : ℕ) → After (pass i) (passStep (checkPass S (S .pass i) (σ .lists)) σ)
     unfolding checkPass outcome
-    after-check p = go (isFine (passVerdict (check S p) (attachments S p) (σ .lists))) refl
+    after-check i = go (isFine (passVerdict (check S p) (attachments S p) (σ .lists))) refl
       where
+        p : Pass
+        p = S .pass i
+
         go : (b : Bool) → isFine (passVerdict (check S p) (attachments S p) (σ .lists)) ≡ b
-            → After (passStep (cond b (acceptedPass S (check S p .seen) (attachments S p) (σ .lists)) (refusedPass (passVerdict (check S p) (attachments S p) (σ .lists)) (σ .lists))) σ)
-        go true e = after-accepted p (then-left (check S p .verdict) (roomVerdict (attachments S p) (newPass (σ .lists))) e)
-        go false e = after-refused (checked (refusal (passVerdict (check S p) (attachments S p) (σ .lists)))) (rw e)
+            → After (pass i) (passStep (cond b (acceptedPass S (check S p .seen) (attachments S p) (σ .lists)) (refusedPass (passVerdict (check S p) (attachments S p) (σ .lists)) (σ .lists))) σ)
+        go true e = after-accepted i (then-left (check S p .verdict) (roomVerdict (attachments S p) (newPass (σ .lists))) e)
+        go false e = after-refused (pass i) (checked (refusal (passVerdict (check S p) (attachments S p) (σ .lists)))) (rw e)
 
     -- A submission runs what waits.
-    after-submit : After (submitStep (submitState S σ))
+    after-submit : After submit (submitStep (submitState S σ))
     after-submit =
-        let g : Going D left left′ S (events S (n + 1) (answers S cs (submitState S σ))) (after S cs (submitState S σ)) (hs ++ ws) [] _ _ =
+        let g : Going D left left′ S (events S (n + 1) cs (answers S cs (submitState S σ))) (after S cs (submitState S σ)) (hs ++ ws) [] _ _ =
         rest (submitState S σ) (hs ++ ws) [] _ _ (submit-inv D left left′ S σ hs ws m m′ inv) in
         record { loads = ap₂ _++_ (submit-shown D left left′ S σ hs ws m m′ inv) (g .loads); marks = g .marks; equal = g .equal }
 
-    after-called : (c : Call) → After (called S c σ)
+    after-called : (c : Call) → After c (called S c σ)
     unfolding passCall
     after-called (pass i) = go (ltb i (S .passCount))
       where
-        go : (b : Bool) → After (passStep (cond b (checkPass S (S .pass i) (σ .lists)) (refusedPass (refusedAt 5 nowhere) (σ .lists))) σ)
-        go true = after-check (S .pass i)
-        go false = after-refused (checked (refusal (refusedAt 5 nowhere))) refl
+        go : (b : Bool) → After (pass i) (passStep (cond b (checkPass S (S .pass i) (σ .lists)) (refusedPass (refusedAt 5 nowhere) (σ .lists))) σ)
+        go true = after-check i
+        go false = after-refused (pass i) (checked (refusal (refusedAt 5 nowhere))) refl
     after-called submit = after-submit
 
-    after-not-lent : (c : Call) → After (notLent c σ)
-    after-not-lent (pass i) = after-refused (checked (refusal (refusedAt 6 nowhere))) refl
-    after-not-lent submit = after-refused (submitted 6 (σ .status)) refl
+    after-not-lent : (c : Call) → After c (notLent c σ)
+    after-not-lent (pass i) = after-refused (pass i) (checked (refusal (refusedAt 6 nowhere))) refl
+    after-not-lent submit = after-refused submit (submitted 6 (σ .status)) refl
 
-    after-call : (c : Call) → After (call S c σ)
+    after-call : (c : Call) → After c (call S c σ)
     unfolding call
     after-call c = go (lentRight S σ)
       where
-        go : (b : Bool) → After (cond b (called S c σ) (notLent c σ))
+        go : (b : Bool) → After c (cond b (called S c σ) (notLent c σ))
         go true = after-called c
         go false = after-not-lent c
 
@@ -104,7 +109,7 @@ module _ {Val : Type 0} (D : Drawing Val) (left left′ : ℕ → Cells Val) (S 
 
 -- From a fresh state, for any list of calls; and for each list of first calls.
 from-fresh : {Val : Type 0} (D : Drawing Val) (c c′ : Contents Val) (S : Session) → Fit S → (σ : State) → Fresh S σ → (calls : List Call)
-    → Going D (c .left) (c′ .left) S (events S 0 (answers S calls σ)) (after S calls σ) [] [] (c .first) (c′ .first)
+    → Going D (c .left) (c′ .left) S (events S 0 calls (answers S calls σ)) (after S calls σ) [] [] (c .first) (c′ .first)
 from-fresh D c c′ S fit σ h calls =
     all-calls D (c .left) (c′ .left) S fit calls 0 σ [] [] (c .first) (c′ .first) (start D (c .left) (c′ .left) S σ h (c .first) (c′ .first))
 

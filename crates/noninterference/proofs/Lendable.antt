@@ -1,4 +1,4 @@
--- From a fresh state number 6 never arises: what each call leaves can be lent to the next, the clears because a pass adds at most nine entries to at most 64.
+-- From a fresh state number 6 never arises: what each call leaves can be lent to the next, the clears because a pass returns only what was listed before it, at most 64.
 use mathlib.Core.Path.{_≡_, refl, sym, ap, subst, _∙_}
 use mathlib.Core.Bool.{Bool, true, false, not, cond}
 use mathlib.Core.List.{List, [], _∷_}
@@ -28,13 +28,13 @@ use Rattle.laws.proofs.Surfaces.{inside-range}
 use Rattle.laws.proofs.Verdicts.{then-left, then-right, unless-on}
 use Rattle.laws.proofs.Places.{surfaces-counted}
 use Rattle.laws.proofs.Submission.{submit-right, bytes-long}
-use Rattle.laws.proofs.Room.{all-held, pass-listed, discards-fit}
+use Rattle.laws.proofs.Room.{clears-most, discards-fit}
 use Rattle.laws.proofs.Lent.{surfaces-append, actions-append, surfaces-retain, first-right, implicits-right}
 use Rattle.noninterference.specs.Claim.{Fresh}
 use Rattle.noninterference.specs.Theorem.{lineOf, endState, printed}
 use Rattle.noninterference.proofs.Passes.{All, all-map}
 use Rattle.noninterference.proofs.Fresh.{fresh-right}
-use Rattle.noninterference.proofs.Accepted.{Reads, check-reads, Ranged, accepted-okay}
+use Rattle.noninterference.proofs.Accepted.{Ranged, accepted-okay, pass-separate}
 
 -- ── records in range
 
@@ -143,13 +143,12 @@ module _ (S : Session) (vs : viewsRight S ≡ true) where
       fits : isFine (passVerdict (check S p) xs (σ .lists)) ≡ true → Lendable (record { lists = attachAll xs l; status = σ .status })
       fits e =
           let judged : isFine (check S p .verdict) ≡ true = then-left (check S p .verdict) (roomVerdict xs l) e in
-          let reads : Reads S p = check-reads S p judged in
           let rm : isFine (roomVerdict xs l) ≡ true = then-right (check S p .verdict) (roomVerdict xs l) e in
           record {
             right = all-right S xs l (pass-right S vs p judged) (record { discards = h .right .discards; actions = h .right .actions; clears = refl });
             discards = discards-fit xs l (unless-on (discardsFit xs l) 49 nowhere refl (then-left (unless (discardsFit xs l) 49 nowhere) (unless (actionsFit xs l) 50 nowhere) rm)) (h .discards);
             actions = leb-true (length (attachAll xs l .actions)) maxActions (unless-on (actionsFit xs l) 50 nowhere refl (then-right (unless (discardsFit xs l) 49 nowhere) (unless (actionsFit xs l) 50 nowhere) rm));
-            clears = omega (arith, all-held xs l, pass-listed S p, reads .colors, h .discards);
+            clears = omega (arith, clears-most xs l (pass-separate S vs p judged), h .discards);
             status = h .status;
           }
 

@@ -64,6 +64,15 @@ distinct-append (x ∷ xs) ys d e h = (
   distinct-append xs ys (d .1) e (λ s r. h s (or-on-right (reaches x s) (reached s xs) r)),
 )
 
+-- What no attachment is found for is not reached.
+pub unfound : (s : Surface) (xs : List Attached) → find s xs ≡ none → reached s xs ≡ false
+unfound s [] h = refl
+unfound s (x ∷ xs) h = go (reaches x s) refl (unfound s xs)
+  where
+    go : (b : Bool) → reaches x s ≡ b → (find s xs ≡ none → reached s xs ≡ false) → (reaches x s || reached s xs) ≡ false
+    go true e ih = let z : some x ≡ none = rw e at h in cc
+    go false e ih = rw e (ih (rw e at h))
+
 pub reached-append : (s : Surface) (xs ys : List Attached) → reached s (xs ++ ys) ≡ (reached s xs || reached s ys)
 reached-append s [] ys = refl
 reached-append s (x ∷ xs) ys = go (reaches x s) (reached-append s xs ys)

@@ -11,7 +11,7 @@ use Rattle.definition.specs.Pass.{acceptance}
 use Rattle.definition.specs.declared.Surface.{Surface}
 use Rattle.definition.specs.declared.Seen.{Seen}
 use Rattle.laws.specs.Surfaces.{Inside}
-use Rattle.noninterference.specs.Memory.{Aspect, hasAspect, told}
+use Rattle.noninterference.specs.Memory.{Aspect, hasAspect, passSlices, told}
 use Rattle.noninterference.proofs.Plans.{plannedUse, partsOf, hasPart, proper}
 use Rattle.laws.specs.Room.{reaches}
 use Rattle.noninterference.proofs.Passes.{All, Distinct, Named, Spreads, all-map}
@@ -35,4 +35,4 @@ pub record Fit (S : Session) : Type 0 where
   pub sound : (p : Pass) → isFine (check S p .verdict) ≡ true → All (Sound S) (attachments S p)
   pub distinct : (p : Pass) → isFine (check S p .verdict) ≡ true → Distinct (attachments S p)
   pub tells : (p : Pass) → isFine (check S p .verdict) ≡ true → (n : ℕ) (q : Seen) (c : List Surface)
-      → told S n (acceptance S q (attachments S p) c) ≡ record { number = n; uses = map plannedUse (attachments S p); clears = c }
+      → told S n (passSlices S p) (acceptance S q (attachments S p) c) ≡ record { number = n; uses = map plannedUse (attachments S p); clears = c }

@@ -2,7 +2,7 @@
 use mathlib.Core.Path.{_≡_, sym, ap, _∙_}
 use mathlib.Core.List.{List, [], _∷_, _++_}
 use Prim.Native.Nat.{ℕ, _≤_}
-use borrow.Author.Tests.{leb-true, ne-eqb, eq-eqb}
+use borrow.Author.Tests.{leb-true, eq-eqb}
 use Rattle.definition.specs.Sizes.{maxSurfaces}
 use Rattle.definition.specs.Session.{Session, session, surfaceCount}
 use Rattle.definition.specs.Readable.{texturesRead, texturesRight, sessionRefusal}
@@ -30,12 +30,11 @@ unfolding texturesRight
 counted s h = leb-true (surfaceCount (session s)) maxSurfaces (and-right (texturesRead (session s) (session s .textureCount)) _ (tested s h .textures))
 
 pub demand-three : DemandThree
-demand-three s h st single flat =
+demand-three s h st single =
     fit-claim (session s) (conditions-fit (session s) (record {
       views = tested s h .views;
       strict = st;
       single = single;
-      flat = λ t g. ne-eqb (session s .texture t .dimension) 3 (flat t g);
     }))
 
 pub first-answers : FirstAnswers

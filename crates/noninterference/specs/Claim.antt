@@ -23,7 +23,7 @@ pub record Fresh (S : Session) (σ : State) : Type 0 where
 
 -- The memory is told what the calls answer.
 abbrev pub heard : Session → State → List Call → List Event
-heard S σ calls = events S 0 (answers S calls σ)
+heard S σ calls = events S 0 calls (answers S calls σ)
 
 -- The status byte of a surface after the calls.
 abbrev pub byteAt : Session → State → List Call → Surface → ℕ

@@ -1,22 +1,23 @@
--- Document 01's memory: a value for each aspect of each surface. It is fed the session, the answers to the calls in order and the status
+-- Document 01's memory: a value for each aspect of each surface. It is fed the session, the calls in order, their answers and the status
 -- bytes after each submission; it knows nothing of the lists, nor of how a pass is judged.
 use mathlib.Core.Bool.{Bool, true, false, not, cond}
-use mathlib.Core.List.{List, [], _∷_, _++_, map}
+use mathlib.Core.List.{List, [], _∷_, _++_}
 use mathlib.Core.Option.{Option, none, some}
-use Prim.Native.Nat.{ℕ, _+_}
+use Prim.Native.Nat.{ℕ, zero, suc, _+_}
 use lib.Dec.{eqb}
 use lib.Ieee.{Float}
 use lib.ListN.{getD}
 use Rattle.definition.specs.Bytes.{bit}
 use Rattle.definition.specs.Formats.{isColor, hasDepth, hasStencil}
 use Rattle.definition.specs.Surfaces.{layersOf, elem}
-use Rattle.definition.specs.Session.{Session, textureFormat, viewRange, surfaceIndex}
+use Rattle.definition.specs.Session.{Session, Pass, isNone, textureFormat, rangeOf, attachedSlice, surfaceIndex}
 use Rattle.definition.specs.Verdict.{isFine}
 use Rattle.definition.specs.Status.{cleared}
 use Rattle.definition.specs.Pass.{Reply}
-use Rattle.definition.specs.Calls.{Answer, checked, submitted}
+use Rattle.definition.specs.Calls.{Call, pass, submit, Answer, checked, submitted}
 use Rattle.definition.specs.declared.Color.{Color}
 use Rattle.definition.specs.declared.Surface.{Surface}
+use Rattle.definition.specs.declared.Slot.{Slot}
 use Rattle.definition.specs.declared.Attachment.{Attachment}
 
 -- ── aspects
@@ -99,11 +100,29 @@ useIn divergent f surfaces x =
     (record { surfaces = surfaces; parts = partIn colorAspect (x .ops) (ofColor (x .color)) ∷ []; divergent = 0 })
     (record { surfaces = surfaces; parts = depthStencilParts f x; divergent = divergent })
 
-abbrev pub useOf : Session → ℕ → Attachment → Use
-useOf S divergent x = useIn divergent (textureFormat S (S .view (x .view))) (layersOf (viewRange (S .view (x .view)))) x
+abbrev pub useOf : Session → (divergent slice : ℕ) → Attachment → Use
+useOf S divergent slice x = useIn divergent (textureFormat S (S .view (x .view))) (layersOf (rangeOf (S .view (x .view)) slice)) x
 
-abbrev pub told : Session → ℕ → Reply → Told
-told S n r = record { number = n; uses = map (useOf S (r .divergent)) (r .attachments); clears = r .clears }
+-- Attachments, each at its slice.
+abbrev pub usesOf : Session → (divergent : ℕ) → List ℕ → List Attachment → List Use
+usesOf S divergent [] xs = []
+usesOf S divergent (k ∷ ks) [] = []
+usesOf S divergent (k ∷ ks) (x ∷ xs) = useOf S divergent k x ∷ usesOf S divergent ks xs
+
+-- The slices of a pass's attachments, in the order of a reply: of a D3 colour view the slot's, else 0. Of a slot, of the first n slots, of the pass.
+abbrev pub slotSlices : Session → Slot → List ℕ
+slotSlices S c = cond (isNone (c .view)) [] (attachedSlice (S .view (c .view)) (c .slice) ∷ cond (isNone (c .resolve)) [] (0 ∷ []))
+
+abbrev pub slotsSlices : Session → Pass → ℕ → List ℕ
+slotsSlices S p zero = []
+slotsSlices S p (suc n) = slotsSlices S p n ++ slotSlices S (p .slot n)
+
+abbrev pub passSlices : Session → Pass → List ℕ
+passSlices S p = cond (isNone (p .depthStencil)) [] (0 ∷ []) ++ slotsSlices S p (p .colors)
+
+-- The pass of call n, which has its attachments at the slices.
+abbrev pub told : Session → (n : ℕ) → List ℕ → Reply → Told
+told S n slices r = record { number = n; uses = usesOf S (r .divergent) slices (r .attachments); clears = r .clears }
 
 -- ── what the answers tell
 
@@ -112,15 +131,21 @@ pub data Event : Type 0 where
   accepted : Told → Event
   done : List ℕ → Event
 
--- A refused call does nothing, a pass waits, a submission gives the status bytes.
-abbrev pub event : Session → ℕ → Answer → Event
-event S n (checked r) = cond (isFine (r .verdict)) (accepted (told S n r)) refused
-event S n (submitted number status) = cond (eqb number 0) (done status) refused
+-- The slices of a call's pass.
+abbrev pub slicesOf : Session → Call → List ℕ
+slicesOf S (pass i) = passSlices S (S .pass i)
+slicesOf S submit = []
 
--- The answers in order, from call n on.
-abbrev pub events : Session → ℕ → List Answer → List Event
-events S n [] = []
-events S n (a ∷ rest) = event S n a ∷ events S (n + 1) rest
+-- A refused call does nothing, a pass waits, a submission gives the status bytes.
+abbrev pub event : Session → ℕ → Call → Answer → Event
+event S n c (checked r) = cond (isFine (r .verdict)) (accepted (told S n (slicesOf S c) r)) refused
+event S n c (submitted number status) = cond (eqb number 0) (done status) refused
+
+-- The calls in order, from call n on, with their answers.
+abbrev pub events : Session → ℕ → List Call → List Answer → List Event
+events S n [] rest = []
+events S n (c ∷ cs) [] = []
+events S n (c ∷ cs) (a ∷ rest) = event S n c a ∷ events S (n + 1) cs rest
 
 -- ── the memory
 

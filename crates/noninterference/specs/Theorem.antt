@@ -1,6 +1,5 @@
 -- The theorems as statements: demand 3, and what stands beside it. proofs/Theorem.antt has a proof of each.
 use mathlib.Core.Path.{_≡_}
-use mathlib.Core.Logic.{_≢_}
 use mathlib.Core.Bool.{Bool, true, false, cond}
 use mathlib.Core.List.{List, [], _∷_, _++_}
 use Prim.Native.Nat.{ℕ, zero, suc, _+_, _<_}
@@ -14,13 +13,12 @@ use Rattle.definition.specs.declared.Surface.{Surface}
 use Rattle.laws.specs.Surfaces.{Inside}
 use Rattle.noninterference.specs.Claim.{Fresh, byteAt, Claim}
 
--- Document 01's conditions: P of every byte string that is a readable session with the strict flag, one-layer views and no 3D texture.
+-- Document 01's conditions: P of every byte string that is a readable session with the strict flag and one-layer views.
 abbrev pub OfStrictSessions : (List ℕ → Type 1) → Type 1
 OfStrictSessions P =
     (s : List ℕ) → sessionRefusal s ≡ 0
     → strict (session s) ≡ true
     → ((k : ℕ) → k < session s .viewCount → session s .view k .layers ≡ 1)
-    → ((t : ℕ) → t < session s .textureCount → session s .texture t .dimension ≢ 3)
     → P s
 
 -- Demand 3.

@@ -1,13 +1,14 @@
 -- The texture table in one reading: a row that cannot be read refuses the table, and where all rows can be read the number
 -- of surfaces decides.
 use mathlib.Core.Path.{_≡_, sym, ap, _∙_}
-use mathlib.Core.Bool.{Bool, true, false, _&&_}
-use Prim.Native.Nat.{ℕ, _+_, _*_, _<_, _≤_}
+use mathlib.Core.Bool.{Bool, true, false, _&&_, cond}
+use Prim.Native.Nat.{ℕ, zero, suc, _+_, _*_, _/_, _^_, max, _<_, _≤_}
 use native.Mathlib.Omega.{arith}
-use native.Mathlib.Nat.{mul-le-mul}
-use lib.Dec.{leb}
+use native.Mathlib.Nat.{div-le-self}
+use lib.Dec.{leb, eqb}
 use Rattle.definition.specs.Sizes.{maxMips, maxLayers, maxSurfaces}
-use Rattle.definition.specs.Session.{Session, surfacesIn, surfacesBefore, surfaceCount}
+use Rattle.definition.specs.Formats.{mipSize}
+use Rattle.definition.specs.Session.{Session, arrayLayers, slicesIn, mipsBefore, surfacesIn, surfacesBefore, surfaceCount}
 use Rattle.definition.specs.Readable.{textureRight, texturesRead, texturesRight}
 use Rattle.definition.specs.declared.Texture.{Texture}
 use Rattle.laws.proofs.Tests.{and-on, and-off-right}
@@ -27,9 +28,23 @@ pub record Read (S : Session) (k sum : ℕ) : Type 0 where
 pub read-none : (S : Session) → Read S 0 0
 read-none S = record { each = textures-none S; counted = sym (before-none S); few = omega arith }
 
--- A texture row that can be read has no more mips, nor more layers, than there may be.
+-- A mip has no more surfaces than there may be slices or layers, so many mips no more than so many each, and a texture row that can be read
+-- no more mips than there may be.
+few-at : (t : Texture) (m : ℕ) → t .depth ≤ maxLayers → slicesIn t m * arrayLayers t ≤ maxLayers
+unfolding slicesIn arrayLayers mipSize
+few-at t m h = go (eqb (t .dimension) 3)
+  where
+    go : (b : Bool) → cond b (max 1 (t .depth / 2 ^ m)) 1 * cond b 1 (t .depth) ≤ maxLayers
+    go true = omega (arith, div-le-self (t .depth) (2 ^ m))
+    go false = omega arith
+
+few-before : (t : Texture) (n : ℕ) → t .depth ≤ maxLayers → mipsBefore t n ≤ n * maxLayers
+unfolding mipsBefore
+few-before t zero h = omega arith
+few-before t (suc n) h = omega (arith, few-before t n h, few-at t n h)
+
 few-in : (t : Texture) → textureRight t ≡ true → surfacesIn t ≤ most
-few-in t e = let v = valid-texture t e in mul-le-mul (v .mips .1) (v .layers .1)
+few-in t e = let v = valid-texture t e in omega (arith, few-before t (t .mips) (v .depth .1), v .mips .1)
 
 -- Row k, its test, and its surfaces.
 module _ (S : Session) (k : ℕ) {t : Texture} {right : Bool} (row : t ≡ S .texture k) (test : right ≡ textureRight t) where

@@ -7,7 +7,7 @@ use mathlib.Core.List.{List, [], _∷_, _++_, append-assoc}
 use mathlib.Core.Option.{Option, none, some}
 use lib.ListN.{length, length-append}
 use Rattle.definition.specs.Sizes.{maxDiscards, surfaceNumbers, actionNumbers}
-use Rattle.definition.specs.Session.{Pass, Session, isNone, viewRange}
+use Rattle.definition.specs.Session.{Pass, Session, isNone, sliceRange}
 use Rattle.definition.specs.MemoryInit.{Lists, matching, registerInitAction, registered, discarded, applyPlan}
 use Rattle.definition.specs.Attachments.{Attached, discards, attachAll, resolveTo, colorOf, resolvePart, depthStencilPart, slotPart, slotParts, attachments}
 use Rattle.definition.specs.declared.Range.{Range}
@@ -147,9 +147,9 @@ pub fitting-color : (space : ℕ) (S : Session) (c : Slot) (l : Lists) → isNon
 fitting-color space S c l e f = fitting-as space (slotPart S c) (colorOf S c ∷ resolvePart S c) l l (sym (slot-some S c e)) refl f
 
 pub fitting-resolve : (space : ℕ) (S : Session) (c : Slot) (l m : Lists) → isNone (c .view) ≡ false → isNone (c .resolve) ≡ false → m ≡ attachAll (colorOf S c ∷ []) l → Fitting space (slotPart S c) l
-    → Fitting space (resolveTo (c .resolve) (viewRange (S .view (c .resolve))) ∷ []) m
+    → Fitting space (resolveTo (c .resolve) (sliceRange (S .view (c .resolve)) 0) ∷ []) m
 fitting-resolve space S c l m e g h f =
-    let target = resolveTo (c .resolve) (viewRange (S .view (c .resolve))) in
+    let target = resolveTo (c .resolve) (sliceRange (S .view (c .resolve)) 0) in
     fitting-as space (target ∷ []) (target ∷ []) (attachAll (colorOf S c ∷ []) l) m refl h
     (fitting-right space (colorOf S c ∷ []) (target ∷ []) l (fitting-as space (slotPart S c) (colorOf S c ∷ target ∷ []) l l (sym (slot-resolving S c e g)) refl f))
 

@@ -18,14 +18,17 @@ use Rattle.records.specs.Lent.{decodeSurface, encodeSurface, decodeKind,
 
 -- The stores of straight-line code, each so many places after the first.
 pub surface-stores : (l : List ℕ) (i : ℕ) (s : Surface)
-    → set (set (set l (surfaceNumbers * i) (s .texture)) (surfaceNumbers * i + 1) (s .mip)) (surfaceNumbers * i + 2) (s .layer) ≡ sets l (surfaceNumbers * i) (encodeSurface s)
+    → set (set (set (set l (surfaceNumbers * i) (s .texture)) (surfaceNumbers * i + 1) (s .mip)) (surfaceNumbers * i + 2) (s .layer)) (surfaceNumbers * i + 3) (s .slice)
+    ≡ sets l (surfaceNumbers * i) (encodeSurface s)
 surface-stores l i s =
     let e₁ : surfaceNumbers * i + 1 ≡ suc (surfaceNumbers * i) = omega arith in
     let e₂ : surfaceNumbers * i + 2 ≡ suc (suc (surfaceNumbers * i)) = omega arith in
-    λ q. set (set (set l (surfaceNumbers * i) (s .texture)) (e₁ q) (s .mip)) (e₂ q) (s .layer)
+    let e₃ : surfaceNumbers * i + 3 ≡ suc (suc (suc (surfaceNumbers * i))) = omega arith in
+    λ q. set (set (set (set l (surfaceNumbers * i) (s .texture)) (e₁ q) (s .mip)) (e₂ q) (s .layer)) (e₃ q) (s .slice)
 
 pub action-stores : (l : List ℕ) (i : ℕ) (r : Range) (k : MemoryInitKind) (n : ℕ) → n ≡ encodeKind k
-    → set (set (set (set (set (set l (actionNumbers * i) (r .texture)) (actionNumbers * i + 1) (r .mip)) (actionNumbers * i + 2) (r .mips)) (actionNumbers * i + 3) (r .layer)) (actionNumbers * i + 4) (r .layers)) (actionNumbers * i + 5) n
+    → set (set (set (set (set (set (set l (actionNumbers * i) (r .texture)) (actionNumbers * i + 1) (r .mip)) (actionNumbers * i + 2) (r .mips)) (actionNumbers * i + 3) (r .layer)) (actionNumbers * i + 4) (r .layers)) (actionNumbers * i + 5) n)
+    (actionNumbers * i + 6) (r .slice)
     ≡ sets l (actionNumbers * i) (encodeAction r k)
 action-stores l i r k n h =
     let e₁ : actionNumbers * i + 1 ≡ suc (actionNumbers * i) = omega arith in
@@ -33,20 +36,25 @@ action-stores l i r k n h =
     let e₃ : actionNumbers * i + 3 ≡ suc (suc (suc (actionNumbers * i))) = omega arith in
     let e₄ : actionNumbers * i + 4 ≡ suc (suc (suc (suc (actionNumbers * i)))) = omega arith in
     let e₅ : actionNumbers * i + 5 ≡ suc (suc (suc (suc (suc (actionNumbers * i))))) = omega arith in
-    λ q. set (set (set (set (set (set l (actionNumbers * i) (r .texture)) (e₁ q) (r .mip)) (e₂ q) (r .mips)) (e₃ q) (r .layer)) (e₄ q) (r .layers)) (e₅ q) (h q)
+    let e₆ : actionNumbers * i + 6 ≡ suc (suc (suc (suc (suc (suc (actionNumbers * i)))))) = omega arith in
+    λ q. set (set (set (set (set (set (set l (actionNumbers * i) (r .texture)) (e₁ q) (r .mip)) (e₂ q) (r .mips)) (e₃ q) (r .layer)) (e₄ q) (r .layers)) (e₅ q) (h q)) (e₆ q) (r .slice)
 
 -- A surface is read number by number.
-pub surface-read : (l : List ℕ) (i : ℕ) → surfaceAt (getD l (surfaceNumbers * i) 0) (getD l (surfaceNumbers * i + 1) 0) (getD l (surfaceNumbers * i + 2) 0) ≡ surfaceIn i l
+pub surface-read : (l : List ℕ) (i : ℕ)
+    → surfaceAt (getD l (surfaceNumbers * i) 0) (getD l (surfaceNumbers * i + 1) 0) (getD l (surfaceNumbers * i + 2) 0) (getD l (surfaceNumbers * i + 3) 0) ≡ surfaceIn i l
 unfolding recordAt decodeSurface
 surface-read l i =
     let e₀ = number-at surfaceNumbers i 0 l (omega arith) ∙ ap (λ (q : ℕ). getD l q 0) (add-zero (surfaceNumbers * i)) in
     let e₁ = number-at surfaceNumbers i 1 l (omega arith) in
     let e₂ = number-at surfaceNumbers i 2 l (omega arith) in
-    λ q. surfaceAt (sym e₀ q) (sym e₁ q) (sym e₂ q)
+    let e₃ = number-at surfaceNumbers i 3 l (omega arith) in
+    λ q. surfaceAt (sym e₀ q) (sym e₁ q) (sym e₂ q) (sym e₃ q)
 
 -- And so is an action.
 pub range-read : (l : List ℕ) (i : ℕ)
-    → rangeAt (getD l (actionNumbers * i) 0) (getD l (actionNumbers * i + 1) 0) (getD l (actionNumbers * i + 2) 0) (getD l (actionNumbers * i + 3) 0) (layersOf (getD l (actionNumbers * i + 5) 0) (getD l (actionNumbers * i + 4) 0)) ≡ actionIn i l .range
+    → rangeAt (getD l (actionNumbers * i) 0) (getD l (actionNumbers * i + 1) 0) (getD l (actionNumbers * i + 2) 0) (getD l (actionNumbers * i + 3) 0)
+    (layersOf (getD l (actionNumbers * i + 5) 0) (getD l (actionNumbers * i + 4) 0)) (getD l (actionNumbers * i + 6) 0)
+    ≡ actionIn i l .range
 unfolding recordAt decodeAction
 range-read l i =
     let e₀ = number-at actionNumbers i 0 l (omega arith) ∙ ap (λ (q : ℕ). getD l q 0) (add-zero (actionNumbers * i)) in
@@ -55,7 +63,8 @@ range-read l i =
     let e₃ = number-at actionNumbers i 3 l (omega arith) in
     let e₄ = number-at actionNumbers i 4 l (omega arith) in
     let e₅ = number-at actionNumbers i 5 l (omega arith) in
-    λ q. rangeAt (sym e₀ q) (sym e₁ q) (sym e₂ q) (sym e₃ q) (layersOf (sym e₅ q) (sym e₄ q))
+    let e₆ = number-at actionNumbers i 6 l (omega arith) in
+    λ q. rangeAt (sym e₀ q) (sym e₁ q) (sym e₂ q) (sym e₃ q) (layersOf (sym e₅ q) (sym e₄ q)) (sym e₆ q)
 
 pub kind-read : (l : List ℕ) (i : ℕ) → decodeKind (getD l (actionNumbers * i + 5) 0) ≡ actionIn i l .kind
 unfolding recordAt decodeAction

@@ -1,4 +1,4 @@
--- The lent lists: numbers that stand for surfaces (texture, mip, layer) and actions (texture, mip, mips, layer, layers, kind), one after the other.
+-- The lent lists: numbers that stand for surfaces (texture, mip, layer, slice) and actions (texture, mip, mips, layer, layers, kind, slice), one after the other.
 -- Every contract speaks of the first so many of them.
 use Prim.Native.Nat.{ℕ, zero, suc}
 use mathlib.Core.Bool.{cond}
@@ -14,12 +14,12 @@ use Rattle.definition.specs.declared.MemoryInitKind.{MemoryInitKind}
 use Rattle.definition.specs.declared.MemoryInitKind.the-variants.{ImplicitlyInitialized, NeedsInitializedMemory}
 use Rattle.laws.specs.Records.{recordAt, records}
 
--- A surface and its three numbers.
+-- A surface and its four numbers.
 unfoldable pub decodeSurface : List ℕ → Surface
-decodeSurface l = surfaceAt (getD l 0 0) (getD l 1 0) (getD l 2 0)
+decodeSurface l = surfaceAt (getD l 0 0) (getD l 1 0) (getD l 2 0) (getD l 3 0)
 
 abbrev pub encodeSurface : Surface → List ℕ
-encodeSurface s = s .texture ∷ s .mip ∷ s .layer ∷ []
+encodeSurface s = s .texture ∷ s .mip ∷ s .layer ∷ s .slice ∷ []
 
 -- A kind and its number.
 abbrev pub decodeKind : ℕ → MemoryInitKind
@@ -30,7 +30,7 @@ abbrev pub encodeKind : MemoryInitKind → ℕ
 encodeKind ImplicitlyInitialized = 0
 encodeKind NeedsInitializedMemory = 1
 
--- An action and its six numbers.
+-- An action and its seven numbers.
 abbrev pub actionOf : Range → MemoryInitKind → Action
 actionOf r k = record { range = r; kind = k }
 
@@ -39,10 +39,10 @@ abbrev pub layersOf : ℕ → ℕ → ℕ
 layersOf kind layers = cond (leb kind 1) layers 0
 
 unfoldable pub decodeAction : List ℕ → Action
-decodeAction l = actionOf (rangeAt (getD l 0 0) (getD l 1 0) (getD l 2 0) (getD l 3 0) (layersOf (getD l 5 0) (getD l 4 0))) (decodeKind (getD l 5 0))
+decodeAction l = actionOf (rangeAt (getD l 0 0) (getD l 1 0) (getD l 2 0) (getD l 3 0) (layersOf (getD l 5 0) (getD l 4 0)) (getD l 6 0)) (decodeKind (getD l 5 0))
 
 abbrev pub encodeAction : Range → MemoryInitKind → List ℕ
-encodeAction r k = r .texture ∷ r .mip ∷ r .mips ∷ r .layer ∷ r .layers ∷ encodeKind k ∷ []
+encodeAction r k = r .texture ∷ r .mip ∷ r .mips ∷ r .layer ∷ r .layers ∷ encodeKind k ∷ r .slice ∷ []
 
 -- The first n surfaces, and the one at place i.
 abbrev pub surfaces : ℕ → List ℕ → List Surface

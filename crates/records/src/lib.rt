@@ -1,4 +1,4 @@
-// The records of the lent lists: surfaces of three numbers and actions of six, read and written where they stand.
+// The records of the lent lists: surfaces of four numbers and actions of seven, read and written where they stand.
 // The contracts speak of the records, so that the lists are lists of them.
 use definition::MemoryInitKind;
 use definition::Range;
@@ -11,7 +11,7 @@ ghost use lib.ListN.{length};
 ghost use lib.Seq.{sets};
 ghost use Rattle.definition.specs.Sizes.{surfaceNumbers, actionNumbers};
 ghost use Rattle.definition.specs.Surfaces as Surfaces;
-ghost use Rattle.records.specs.Lent.{encodeSurface, decodeKind, encodeKind, layersOf, encodeAction, surfaceIn, actionIn};
+ghost use Rattle.records.specs.Lent.{encodeSurface, decodeKind, encodeKind, layersOf, encodeAction, surfaceIn};
 
 // x is one of the `count` numbers from `first` on. The sum of two u32 fits a u64.
 fn within(first: u32, count: u32, x: u32) -> bool
@@ -26,10 +26,11 @@ pub fn hits(range: Range, s: Surface) -> bool
 {
     (s.texture == range.texture)
         & within(range.mip, range.mips, s.mip)
+        & (s.slice == range.slice)
         & within(range.layer, range.layers, s.layer)
 }
 
-// The surface that a discard of the range names: its first mip and layer.
+// The surface that a discard of the range names: its first mip and layer, at its slice.
 pub fn first_of(range: Range) -> Surface
     ensures { λ r. ⌜ r ≡ Surfaces.firstOf range ⌝ }
 {
@@ -37,6 +38,7 @@ pub fn first_of(range: Range) -> Surface
         texture: range.texture,
         mip: range.mip,
         layer: range.layer,
+        slice: range.slice,
     }
 }
 
@@ -50,6 +52,7 @@ pub fn only_range(s: Surface) -> Range
         mips: 1,
         layer: s.layer,
         layers: 1,
+        slice: s.slice,
     }
 }
 
@@ -63,6 +66,7 @@ pub fn surface_at(l: &[u32], i: usize) -> Surface
         texture: l[at],
         mip: l[at + 1],
         layer: l[at + 2],
+        slice: l[at + 3],
     }
 }
 
@@ -75,6 +79,7 @@ pub fn put_surface(l: &mut [u32], i: usize, s: Surface)
     l[at] = s.texture;
     l[at + 1] = s.mip;
     l[at + 2] = s.layer;
+    l[at + 3] = s.slice;
 }
 
 // A kind's number.
@@ -88,7 +93,7 @@ fn encode_kind(kind: MemoryInitKind) -> u32
 }
 
 // The kind of a number.
-fn decode_kind(number: u32) -> MemoryInitKind
+pub fn decode_kind(number: u32) -> MemoryInitKind
     ensures { λ r. ⌜ r ≡ decodeKind number ⌝ }
 {
     if number == 0 {
@@ -110,6 +115,7 @@ pub fn put_action(l: &mut [u32], i: usize, range: Range, kind: MemoryInitKind)
     l[at + 3] = range.layer;
     l[at + 4] = range.layers;
     l[at + 5] = encode_kind(kind);
+    l[at + 6] = range.slice;
 }
 
 // The layers of an action, by its kind's number.
@@ -117,27 +123,4 @@ pub fn layers_of(kind: u32, layers: u32) -> u32
     ensures { λ r. ⌜ r ≡ layersOf kind layers ⌝ }
 {
     if kind <= 1 { layers } else { 0 }
-}
-
-// The range of the action at place i.
-pub fn range_at(l: &[u32], i: usize) -> Range
-    requires { ⌜ actionNumbers * i + actionNumbers ≤ length (now l) ⌝ }
-    ensures { λ r. ⌜ r ≡ actionIn i (now (l .entry)) .range ⌝ }
-{
-    let at = ACTION_NUMBERS * i;
-    Range {
-        texture: l[at],
-        mip: l[at + 1],
-        mips: l[at + 2],
-        layer: l[at + 3],
-        layers: layers_of(l[at + 5], l[at + 4]),
-    }
-}
-
-// The kind of the action at place i.
-pub fn kind_at(l: &[u32], i: usize) -> MemoryInitKind
-    requires { ⌜ actionNumbers * i + actionNumbers ≤ length (now l) ⌝ }
-    ensures { λ r. ⌜ r ≡ actionIn i (now (l .entry)) .kind ⌝ }
-{
-    decode_kind(l[ACTION_NUMBERS * i + 5])
 }

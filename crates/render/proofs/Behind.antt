@@ -8,7 +8,7 @@ use mathlib.Core.Option.{Option, none, some}
 use lib.Dec.{leb}
 use lib.ListN.{length, length-append}
 use borrow.Author.Tests.{leb-true, le-leb, lt-leb}
-use Rattle.definition.specs.Sizes.{maxDiscards, maxActions, maxAdded}
+use Rattle.definition.specs.Sizes.{maxDiscards, maxActions}
 use Rattle.definition.specs.Session.{Pass, Session}
 use Rattle.definition.specs.Verdict.{nowhere, fine, isFine, refusedAt, _then_, unless}
 use Rattle.definition.specs.Check.{check}
@@ -25,6 +25,7 @@ use Rattle.definition.specs.declared.MemoryInitKind.the-variants.{ImplicitlyIni
 use Rattle.laws.proofs.Tests.{clash}
 use Rattle.laws.proofs.Verdicts.{then-left, then-stop, then-go, then-assoc, unless-fine, unless-refused}
 use Rattle.records.specs.Lent.{actionOf}
+use Rattle.render.specs.Outcome.{mostAdded}
 use Rattle.render.proofs.Room.{pass-added}
 use Rattle.render.proofs.Outcome.{few-colors, outcome-refused, outcome-accepted}
 
@@ -121,12 +122,12 @@ module _ (xs : List Action) where
         go true e = e ∙ sym (ap (λ (o : Outcome). isFine (o .reply .verdict)) (accepting e)) ∙ h
         go false e = ap (λ (o : Outcome). isFine (o .reply .verdict)) (sym (refusing e)) ∙ h
 
-    -- A pass adds at most `maxAdded` actions, refused or not.
-    pub check-added : length (l .discards) ≤ maxDiscards → length (checkPass S p l .lists .actions) ≤ length (l .actions) + maxAdded
-    check-added few = go (isFine without) refl
+    -- A pass adds at most `mostAdded` actions, refused or not.
+    pub check-added : length (checkPass S p l .lists .actions) ≤ length (l .actions) + mostAdded (length (l .discards))
+    check-added = go (isFine without) refl
       where
-        go : (b : Bool) → isFine without ≡ b → length (checkPass S p l .lists .actions) ≤ length (l .actions) + maxAdded
-        go true e = omega (arith, ap (λ (o : Outcome). length (o .lists .actions)) (accepting e), pass-added S p (newPass l) (few-colors S p (then-left _ _ e)) few)
+        go : (b : Bool) → isFine without ≡ b → length (checkPass S p l .lists .actions) ≤ length (l .actions) + mostAdded (length (l .discards))
+        go true e = omega (arith, ap (λ (o : Outcome). length (o .lists .actions)) (accepting e), pass-added S p (newPass l) (few-colors S p (then-left _ _ e)))
         go false e = omega (arith, ap (λ (o : Outcome). length (o .lists .actions)) (refusing e))
 
     -- A pass that is refused is refused alike, and leaves the lists.

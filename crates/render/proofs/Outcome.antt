@@ -5,7 +5,7 @@ use mathlib.Core.Path.{_≡_, refl, sym, ap, subst, _∙_}
 use mathlib.Core.Bool.{Bool, true, false, cond}
 use mathlib.Core.List.{List, [], append-nil}
 use lib.ListN.{length, length-map}
-use Rattle.definition.specs.Sizes.{maxSlots, maxDiscards, maxActions, surfaceNumbers, actionNumbers, maxAttachments, maxAdded}
+use Rattle.definition.specs.Sizes.{maxSlots, maxDiscards, maxActions, surfaceNumbers, actionNumbers, maxAttachments}
 use Rattle.definition.specs.Session.{Pass, Session}
 use Rattle.definition.specs.Verdict.{nowhere, isFine}
 use Rattle.definition.specs.Readable.{passReads}
@@ -33,7 +33,7 @@ use Rattle.recording.specs.Recorded.{Fitting, Recorded}
 use Rattle.recording.proofs.Recorded.{fitting-as}
 use Rattle.render.specs.declared.PassReply.{PassReply}
 use Rattle.render.specs.declared.PassOutcome.{PassOutcome}
-use Rattle.render.specs.Outcome.{replied, refusedOutcome, acceptedOutcome, Whole, Accepted, Checked}
+use Rattle.render.specs.Outcome.{replied, refusedOutcome, acceptedOutcome, Whole, Accepted, Checked, mostAdded}
 use Rattle.render.proofs.Reply.{reply-accepted}
 use Rattle.render.proofs.Room.{pass-actions}
 
@@ -64,13 +64,19 @@ held-cleared : (n : Counts) (d a c : List ℕ) → held (cleared n) d a c ≡ ne
 unfolding records
 held-cleared n d a c = refl
 
-module _ (S : Session) (p : Pass) (n : Counts) (d a c : List ℕ) (few : n .discards ≤ maxDiscards) (space : actionNumbers * min maxActions (n .actions + maxAdded) ≤ length a) (colors : p .colors ≤ maxSlots)
+module _ (S : Session) (p : Pass) (n : Counts) (d a c : List ℕ) (few : n .discards ≤ maxDiscards) (space : actionNumbers * min maxActions (n .actions + mostAdded (n .discards)) ≤ length a) (colors : p .colors ≤ maxSlots)
     (room : isFine (roomVerdict (attachments S p) (newPass (held n d a c))) ≡ true) where
   few-held : length (newPass (held n d a c) .discards) ≤ maxDiscards
   few-held = omega (arith, records-length surfaceNumbers decodeSurface (n .discards) d)
 
-  few-actions : length (attachAll (attachments S p) (newPass (held n d a c)) .actions) ≤ min maxActions (n .actions + maxAdded)
-  few-actions = omega (arith, pass-actions S p (newPass (held n d a c)) colors few-held (room-actions _ _ room), records-length actionNumbers decodeAction (n .actions) a)
+  few-actions : length (attachAll (attachments S p) (newPass (held n d a c)) .actions) ≤ min maxActions (n .actions + mostAdded (n .discards))
+  few-actions =
+      omega (
+        arith,
+        pass-actions S p (newPass (held n d a c)) colors (room-actions _ _ room),
+        records-length actionNumbers decodeAction (n .actions) a,
+        records-length surfaceNumbers decodeSurface (n .discards) d,
+      )
 
   fitting-new : Fitting (length a) (attachments S p) (newPass (held n d a c))
   fitting-new ys zs e =

@@ -6,7 +6,7 @@ use mathlib.Core.Bool.{Bool, true, false, not, _&&_, cond}
 use mathlib.Core.List.{List, [], _∷_, _++_, map, append-assoc, append-nil}
 use lib.ListN.{length, take, set, length-append}
 use Rattle.definition.specs.Sizes.{maxSlots, maxAttachments}
-use Rattle.definition.specs.Session.{Pass, Session, isNone, viewRange}
+use Rattle.definition.specs.Session.{Pass, Session, isNone, sliceRange}
 use Rattle.definition.specs.Attachments.{Attached, resolveTo, colorOf, slotPart, slotParts, resolvePart}
 use Rattle.definition.specs.Pass.{attachmentReply}
 use Rattle.definition.specs.declared.Attachment.{Attachment}
@@ -57,12 +57,12 @@ holds-listed a n xs h = λ i. record { records = h .records i; count = h .count 
 -- A slot: its colour, then its resolve target.
 pub slot-replies : (S : Session) (c : Slot) (xs : List Attachment)
     → (xs ++ cond (not (isNone (c .view))) (attachmentReply S (colorOf S c) ∷ []) [])
-    ++ cond (not (isNone (c .view)) && not (isNone (c .resolve))) (attachmentReply S (resolveTo (c .resolve) (viewRange (S .view (c .resolve)))) ∷ []) []
+    ++ cond (not (isNone (c .view)) && not (isNone (c .resolve))) (attachmentReply S (resolveTo (c .resolve) (sliceRange (S .view (c .resolve)) 0)) ∷ []) []
     ≡ xs ++ map (attachmentReply S) (slotPart S c)
 unfolding slotPart resolvePart
 slot-replies S c xs =
     append-assoc xs _ _
-    ∙ ap (λ l. xs ++ l) (go (isNone (c .view)) (isNone (c .resolve)) (colorOf S c) (resolveTo (c .resolve) (viewRange (S .view (c .resolve)))))
+    ∙ ap (λ l. xs ++ l) (go (isNone (c .view)) (isNone (c .resolve)) (colorOf S c) (resolveTo (c .resolve) (sliceRange (S .view (c .resolve)) 0)))
   where
     go : (e n : Bool) (x y : Attached)
         → cond (not e) (attachmentReply S x ∷ []) [] ++ cond (not e && not n) (attachmentReply S y ∷ []) [] ≡ map (attachmentReply S) (cond e [] (x ∷ cond n [] (y ∷ [])))
@@ -84,7 +84,7 @@ first-absent S d _ a n (one x) h ea en = clash (x .present) h
 -- One slot further.
 pub slot-turn : (S : Session) (p : Pass) (k : ℕ) (c : Slot) (a : List Attachment) (n : ℕ) (xs : List Attachment) → c ≡ p .slot k
     → Holds a n (((xs ++ map (attachmentReply S) (slotParts S p k)) ++ cond (not (isNone (c .view))) (attachmentReply S (colorOf S c) ∷ []) [])
-    ++ cond (not (isNone (c .view)) && not (isNone (c .resolve))) (attachmentReply S (resolveTo (c .resolve) (viewRange (S .view (c .resolve)))) ∷ []) [])
+    ++ cond (not (isNone (c .view)) && not (isNone (c .resolve))) (attachmentReply S (resolveTo (c .resolve) (sliceRange (S .view (c .resolve)) 0)) ∷ []) [])
     → Holds a n (xs ++ map (attachmentReply S) (slotParts S p (k + 1)))
 slot-turn S p k c a n xs e =
     subst (Holds a n) (

@@ -1,48 +1,25 @@
 -- The reply of a pass: a pass has at most seventeen attachments, so that the array holds them all.
-use Prim.Native.Nat.{ℕ, zero, suc, _*_, _≤_}
+use Prim.Native.Nat.{ℕ, _≤_}
 use native.Mathlib.Omega.{arith}
 use mathlib.Core.Path.{_≡_, sym, ap, _∙_}
-use mathlib.Core.Bool.{Bool, true, false, cond}
-use mathlib.Core.List.{List, [], _∷_, _++_, map}
-use lib.ListN.{length, length-append}
+use mathlib.Core.List.{List, _++_, map}
+use lib.ListN.{length}
 use Rattle.definition.specs.Sizes.{maxSlots, maxAttachments}
-use Rattle.definition.specs.Session.{Pass, Session, isNone}
-use Rattle.definition.specs.Attachments.{Attached, depthStencilPart, resolvePart, slotPart, slotParts, attachments}
+use Rattle.definition.specs.Session.{Pass, Session}
+use Rattle.definition.specs.Attachments.{Attached, depthStencilPart, slotParts, attachments}
 use Rattle.definition.specs.Pass.{attachmentReply, acceptance}
-use Rattle.definition.specs.declared.Slot.{Slot}
 use Rattle.definition.specs.declared.Seen.{Seen}
 use Rattle.definition.specs.declared.Surface.{Surface}
 use Rattle.memory_init.specs.declared.Counts.{Counts}
+use Rattle.room.proofs.Bound.{pass-attached}
 use Rattle.render.specs.declared.replies.Attachments.{Attachments}
 use Rattle.render.specs.Records.{listed}
 use Rattle.render.specs.Outcome.{replied, acceptedReply, acceptedOutcome}
 
 -- ── at most seventeen
 
-optional : (b : Bool) (x : Attached) → length (cond b [] (x ∷ [])) ≤ 1
-optional true x = omega arith
-optional false x = omega arith
-
-slot-most : (S : Session) (c : Slot) → length (slotPart S c) ≤ 2
-unfolding slotPart resolvePart
-slot-most S c = go (isNone (c .view)) (isNone (c .resolve)) _ _
-  where
-    go : (e n : Bool) (x y : Attached) → length (cond e [] (x ∷ cond n [] (y ∷ []))) ≤ 2
-    go true n x y = omega arith
-    go false n x y = omega (arith, optional n y)
-
-slots-most : (S : Session) (p : Pass) (n : ℕ) → length (slotParts S p n) ≤ 2 * n
-unfolding slotParts
-slots-most S p zero = omega arith
-slots-most S p (suc n) = omega (arith, length-append (slotParts S p n) (slotPart S (p .slot n)), slots-most S p n, slot-most S (p .slot n))
-
-part-most : (S : Session) (p : Pass) → length (depthStencilPart S p) ≤ 1
-unfolding depthStencilPart
-part-most S p = optional (isNone (p .depthStencil)) _
-
 pub attachments-most : (S : Session) (p : Pass) → p .colors ≤ maxSlots → length (attachments S p) ≤ maxAttachments
-unfolding attachments
-attachments-most S p h = omega (arith, length-append (depthStencilPart S p) (slotParts S p (p .colors)), part-most S p, slots-most S p (p .colors))
+attachments-most S p h = omega (arith, pass-attached S p)
 
 -- ── what is replied
 

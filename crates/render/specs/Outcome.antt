@@ -4,7 +4,7 @@ use mathlib.Core.Path.{_≡_}
 use mathlib.Core.Bool.{false}
 use mathlib.Core.List.{List, map}
 use lib.ListN.{length}
-use Rattle.definition.specs.Sizes.{maxDiscards, maxActions, maxClears, actionNumbers, discardsNumbers, clearsNumbers, maxAttachments, maxAdded}
+use Rattle.definition.specs.Sizes.{maxDiscards, maxActions, maxClears, actionNumbers, discardsNumbers, clearsNumbers, maxAttachments, maxListed}
 use Rattle.definition.specs.Session.{Pass, Session}
 use Rattle.definition.specs.Verdict.{fine, isFine}
 use Rattle.definition.specs.Attachments.{Attached, divergentOf, attachAll, attachments}
@@ -17,11 +17,15 @@ use Rattle.render.specs.Records.{listed}
 use Rattle.render.specs.declared.PassReply.{PassReply}
 use Rattle.render.specs.declared.PassOutcome.{PassOutcome}
 
+-- The most actions that a pass adds where so many discards are held: one an attachment, and one for each discard that it finds or lists.
+abbrev pub mostAdded : ℕ → ℕ
+mostAdded discards = maxAttachments + discards + maxListed
+
 -- The lent lists are long enough for one pass more: discards and clears with all their room, and as many actions as there may be after it.
 pub record PassRoom (n : Counts) (d a c : List ℕ) : Type 0 where
   pub held : n .discards ≤ maxDiscards
   pub discards : discardsNumbers ≤ length d
-  pub actions : actionNumbers * min maxActions (n .actions + maxAdded) ≤ length a
+  pub actions : actionNumbers * min maxActions (n .actions + mostAdded (n .discards)) ≤ length a
   pub clears : clearsNumbers ≤ length c
 
 -- A reply of the definition as the struct that is handed back: its attachments in seventeen records, and how many clears it returns.

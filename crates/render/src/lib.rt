@@ -178,7 +178,7 @@ fn accept(
     finish(s, pass, d, seen, after)
 }
 
-// One pass check, of a session whose views can be read. Judging writes nothing: 5, 10 to 48 and 51 read the session, 49 and 50 follow a copy of the discards.
+// One pass check, of a session whose views can be read. Judging writes nothing: 5, 10 to 48 and 51 read the session, 49 and 50 the counts or a copy of the discards.
 pub fn check_pass(
     s: &[u8],
     pass: u32,

@@ -227,7 +227,7 @@ fn main() {
     let tally = replay(&space[..n]);
     io::write_all(
         STDOUT_FILENO,
-        b"sessions with the Rust's answers, made by make-answers of the harness from seed 9019\n",
+        b"sessions with the Rust's answers, made by make-answers of the harness from seed 9020\n",
     );
     io::print_decimal(STDOUT_FILENO, tally.agree as u64);
     io::write_all(STDOUT_FILENO, b" of ");

@@ -1,3 +1,4 @@
 pub mod Going
 pub mod Tracking
 pub mod Room
+pub mod Bound

@@ -1,5 +1,5 @@
 // Numbers 49 and 50: whether the lists have room for a pass, told before any lent list is written.
-// The discards' course through the attachments is followed on a copy, step by step in `course`.
+// A bound on what a pass adds tells it where the lists are far from full; else the discards' course through the attachments is followed on a copy, step by step in `course`.
 pub mod course;
 
 use attachments::DepthStencilPart;
@@ -13,7 +13,9 @@ use definition::Slot;
 use definition::Verdict;
 use definition::sizes::DISCARDS_NUMBERS;
 use definition::sizes::MAX_ACTIONS;
+use definition::sizes::MAX_DISCARDS;
 use definition::verdicts::NOWHERE;
+use definition::verdicts::fine;
 use definition::verdicts::then;
 use definition::verdicts::unless;
 use memory_init::Counts;
@@ -31,6 +33,7 @@ ghost use Rattle.definition.specs.Pass.{newPass, roomVerdict};
 ghost use Rattle.memory_init.specs.Lent.{held};
 ghost use Rattle.attachments.specs.Attached.{PartOf};
 ghost use Rattle.room.specs.Going.{Steps, StepsPart, Goes};
+ghost use Rattle.room.specs.Room.{surelyFits};
 
 // What an attachment is planned to do, after the course so far.
 fn follow_planned(copy: &mut [u32], course: Course, a: Planned) -> Course
@@ -85,14 +88,21 @@ fn follow_slots(s: &[u8], pass: u32, n: u32, copy: &mut [u32], course: Course) -
     after
 }
 
-// 49 if a step has no room for its discard, then 50 if the end has none for all actions. d is the pass's depth-stencil part.
-pub fn room_verdict(
-    s: &[u8],
-    pass: u32,
-    d: DepthStencilPart,
-    discards: &[u32],
-    n: Counts,
-) -> Verdict
+// Whether the lists have room for all that any pass of so many colours may add. Past the most actions the sum is not made.
+fn surely_fits(colors: u32, n: Counts) -> bool
+    requires { ⌜ n .discards ≤ maxDiscards ⌝ }
+    ensures { λ r. ⌜ r ≡ surelyFits colors n ⌝ }
+{
+    if MAX_ACTIONS < n.actions {
+        return false;
+    }
+    let k = colors as usize;
+    (n.discards + (1 + k) <= MAX_DISCARDS)
+        & (n.actions + n.discards + (1 + 2 * k) + (1 + k) <= MAX_ACTIONS)
+}
+
+// The verdict of the course that has followed every attachment of the pass.
+fn walked_verdict(s: &[u8], pass: u32, d: DepthStencilPart, discards: &[u32], n: Counts) -> Verdict
     requires { ⌜
         (let S = session (now s) in
         PartOf S d (depthStencilPart S (S .pass pass))
@@ -110,4 +120,27 @@ pub fn room_verdict(
         unless(end.fits, 49, NOWHERE),
         unless(end.actions <= MAX_ACTIONS, 50, NOWHERE),
     )
+}
+
+// 49 if a step has no room for its discard, then 50 if the end has none for all actions. d is the pass's depth-stencil part.
+pub fn room_verdict(
+    s: &[u8],
+    pass: u32,
+    d: DepthStencilPart,
+    discards: &[u32],
+    n: Counts,
+) -> Verdict
+    requires { ⌜
+        (let S = session (now s) in
+        PartOf S d (depthStencilPart S (S .pass pass))
+        × (discardsNumbers ≤ length (now discards))
+        × (n .discards ≤ maxDiscards)) ⌝ }
+    ensures { λ r. ⌜
+        (let S = session (now (s .entry)) in
+        (a c : List ℕ) → r ≡ roomVerdict (attachments S (S .pass pass)) (newPass (held n (now (discards .entry)) a c))) ⌝ }
+{
+    if surely_fits(colors(s, pass), n) {
+        return fine();
+    }
+    walked_verdict(s, pass, d, discards, n)
 }

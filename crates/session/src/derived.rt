@@ -24,7 +24,7 @@ const SELECTIVE_MULTIVIEW: u32 = 2;
 const READ_ONLY_DEPTH_STENCIL: u32 = 3;
 
 // The dimension of a 3D texture.
-const TEXTURE_D3: u32 = 3;
+pub const TEXTURE_D3: u32 = 3;
 
 // View dimension D2.
 const D2: u32 = 2;
@@ -90,6 +90,17 @@ pub fn array_layers(t: Texture) -> u32
     }
 }
 
+// The slices of a mip: a 3D texture's mip depth, else one.
+pub fn slices_in(t: Texture, mip: u32) -> u32
+    ensures { λ r. ⌜ r ≡ Se.slicesIn t mip ⌝ }
+{
+    if t.dimension == TEXTURE_D3 {
+        mip_size(t.depth, mip)
+    } else {
+        1
+    }
+}
+
 // A view's samples: its texture's.
 pub fn samples_of(s: &[u8], v: View) -> u32
     ensures { λ r. ⌜ r ≡ Se.samplesOf (session (now (s .entry))) v ⌝ }
@@ -122,19 +133,6 @@ pub fn depth_of(s: &[u8], v: View) -> u32
     mip_size(t.depth, v.mip)
 }
 
-// The view's surfaces.
-pub fn view_range(v: View) -> Range
-    ensures { λ r. ⌜ r ≡ Se.viewRange v ⌝ }
-{
-    Range {
-        texture: v.texture,
-        mip: v.mip,
-        mips: v.mips,
-        layer: v.layer,
-        layers: v.layers,
-    }
-}
-
 // Whether a view is D2.
 pub fn is_d2(v: View) -> bool
     ensures { λ r. ⌜ r ≡ Se.isD2 v ⌝ }
@@ -154,6 +152,38 @@ pub fn is_d3(v: View) -> bool
     ensures { λ r. ⌜ r ≡ Se.isD3 v ⌝ }
 {
     v.dimension == D3
+}
+
+// What a view has at a slice.
+fn range_of(v: View, slice: u32) -> Range
+    ensures { λ r. ⌜ r ≡ Se.rangeOf v slice ⌝ }
+{
+    Range {
+        texture: v.texture,
+        mip: v.mip,
+        mips: v.mips,
+        layer: v.layer,
+        layers: v.layers,
+        slice,
+    }
+}
+
+// What a view has at slice 0.
+pub fn view_range(v: View) -> Range
+    ensures { λ r. ⌜ r ≡ Se.viewRange v ⌝ }
+{
+    range_of(v, 0)
+}
+
+// What a view has as an attachment at a slice, which counts for a D3 view alone.
+pub fn slice_range(v: View, slice: u32) -> Range
+    ensures { λ r. ⌜ r ≡ Se.sliceRange v slice ⌝ }
+{
+    if is_d3(v) {
+        range_of(v, slice)
+    } else {
+        view_range(v)
+    }
 }
 
 // Whether a view has usage 4, TEXTURE_BINDING.

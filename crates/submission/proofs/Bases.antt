@@ -1,7 +1,7 @@
 -- The table of the surfaces before each texture, one texture further, and a surface's place from it.
-use Prim.Native.Nat.{ℕ, _+_, _*_, _≤_, _<_}
+use Prim.Native.Nat.{ℕ, _+_, _≤_, _<_}
 use native.Mathlib.Omega.{arith}
-use mathlib.Core.Path.{_≡_, refl, sym, ap, _∙_}
+use mathlib.Core.Path.{_≡_, refl, sym, ap, subst, _∙_}
 use mathlib.Core.Logic.{_≢_}
 use mathlib.Core.Bool.{Bool, true, false}
 use mathlib.Core.List.{List}
@@ -9,8 +9,10 @@ use lib.Dec.{eqb}
 use lib.ListN.{length, getD, set}
 use lib.Seq.{getD-set-same, getD-set-other}
 use borrow.Author.Tests.{eqb-true, eqb-false}
-use Rattle.definition.specs.Session.{Session, arrayLayers, surfacesIn, surfacesBefore, surfaceCount, surfaceIndex}
+use Rattle.definition.specs.Session.{Session, surfacesIn, surfacesBefore, surfaceCount, surfaceOffset, surfaceIndex}
+use Rattle.definition.specs.Sizes.{maxSurfaces}
 use Rattle.definition.specs.declared.Surface.{Surface}
+use Rattle.definition.specs.declared.Texture.{Texture}
 use Rattle.laws.specs.Surfaces.{Inside}
 use Rattle.laws.proofs.Folds.{before-turn, before-grows}
 use Rattle.laws.proofs.Places.{place-counted}
@@ -32,11 +34,9 @@ entry-further f bases k at v old room here new j h = ap (λ (q : ℕ). getD (set
 pub sum-fits : (S : Session) (k : ℕ) → k < S .textureCount → surfacesBefore S k + surfacesIn (S .texture k) ≤ surfaceCount S
 sum-fits S k h = omega (arith, before-turn S k, before-grows S (k + 1) (S .textureCount) (omega arith))
 
--- A surface's place from its parts.
-pub index-of : (S : Session) (x : Surface) (b m l k : ℕ) → b ≡ surfacesBefore S (x .texture) → m ≡ x .mip → l ≡ arrayLayers (S .texture (x .texture)) → k ≡ x .layer
-    → b + m * l + k ≡ surfaceIndex S x
-index-of S x b m l k eb em el ek = λ q. eb q + em q * el q + ek q
+-- A surface's place from its parts: where it stands among its texture's, few as all are.
+pub index-of : (S : Session) (x : Surface) (b o : ℕ) → b ≡ surfacesBefore S (x .texture) → o ≡ surfaceOffset (S .texture (x .texture)) x → b + o ≡ surfaceIndex S x
+index-of S x b o eb eo = λ q. eb q + eo q
 
-pub index-fits : (S : Session) (x : Surface) (b m l k : ℕ) → b ≡ surfacesBefore S (x .texture) → m ≡ x .mip → l ≡ arrayLayers (S .texture (x .texture)) → k ≡ x .layer
-    → Inside S x → b + m * l + k < surfaceCount S
-index-fits S x b m l k eb em el ek ok = omega (arith, index-of S x b m l k eb em el ek, place-counted S x ok)
+pub offset-fits : (S : Session) (x : Surface) (t : Texture) → t ≡ S .texture (x .texture) → Inside S x → surfaceCount S ≤ maxSurfaces → surfaceOffset t x ≤ maxSurfaces
+offset-fits S x t e ok few = subst (λ u. surfaceOffset u x ≤ maxSurfaces) (sym e) (omega (arith, place-counted S x ok))

@@ -1,21 +1,22 @@
--- A run of bytes is a sweep over the layers of a mip, and rows of runs are a sweep over a range: one surface, then one mip further.
-use Prim.Native.Nat.{ℕ, zero, suc, _+_, _-_, _*_, _≤_, _<_}
-use native.Mathlib.Nat.{add-mul}
+-- A run of bytes is a sweep over the layers of a mip of a range, and the mips one after the other are a sweep over the range.
+use Prim.Native.Nat.{ℕ, zero, suc, _+_, _-_, _≤_, _<_}
+use native.Mathlib.Nat.{mul-le-mul}
 use native.Mathlib.Omega.{arith}
 use native.Mathlib.Numerals.{add-one}
-use mathlib.Core.Path.{_≡_, refl, sym, ap, ap₂, _∙_}
+use mathlib.Core.Path.{_≡_, refl, sym, ap, ap₂, subst, _∙_}
 use mathlib.Core.Bool.{Bool, true, false, _&&_, _||_, cond, and-false}
 use mathlib.Core.List.{List, [], _∷_, _++_}
 use lib.Dec.{leb, ltb, eqb}
 use lib.ListN.{length, getD, set, take}
 use lib.Seq.{take-all, length-take-le}
 use borrow.Author.Tests.{leb-true, ltb-true, eqb-true, eqb-false, le-leb, lt-ltb}
-use Rattle.definition.specs.Sizes.{maxSurfaces, surfaceNumbers, actionNumbers}
-use Rattle.definition.specs.Surfaces.{surfaceAt, rangeAt, firstOf, same, within, hits}
-use Rattle.definition.specs.Session.{Session, arrayLayers, surfaceCount, surfaceIndex, surfacesOf}
+use Rattle.definition.specs.Sizes.{surfaceNumbers, actionNumbers}
+use Rattle.definition.specs.Surfaces.{surfaceAt, rangeAt, same, within, hits}
+use Rattle.definition.specs.Session.{Session, arrayLayers, mipsBefore, surfaceCount, surfaceIndex, surfacesOf}
 use Rattle.definition.specs.Status.{restart, actByte, emptyByte}
 use Rattle.definition.specs.Submission.{submitBytes}
 use Rattle.definition.specs.declared.Surface.{Surface}
+use Rattle.definition.specs.declared.Texture.{Texture}
 use Rattle.definition.specs.declared.Range.{Range}
 use Rattle.definition.specs.declared.Action.{Action}
 use Rattle.definition.specs.declared.MemoryInitKind.{MemoryInitKind}
@@ -24,12 +25,13 @@ use Rattle.laws.specs.Submission.{sweep, actAt, emptyAt, sweepActs}
 use Rattle.laws.proofs.Tests.{or-factor, bool-iff, and-left, and-right, and-on, or-on-left, or-on-right}
 use Rattle.laws.proofs.Surfaces.{within-none, within-one}
 use Rattle.laws.proofs.Status.{act-twice}
+use Rattle.laws.proofs.Views.{slices-some, slices-later}
 use Rattle.laws.proofs.Places.{surfaces-counted, place-counted}
 use Rattle.laws.proofs.Submission.{sweep-length, sweep-past, sweep-turn, sweep-same, sweep-either, sweep-only, sweeps-append, empties-append, submit-sweeps}
 use Rattle.laws.specs.Records.{records}
 use Rattle.laws.proofs.Records.{records-suc}
 use Rattle.records.specs.Lent.{decodeSurface, decodeAction, actionOf, surfaces, surfaceIn, actions, actionIn}
-use Rattle.submission.specs.Runs.{run, rows}
+use Rattle.submission.specs.Runs.{run, firstMips, mipOf}
 
 -- ── ranges, one layer and one mip further
 
@@ -64,27 +66,31 @@ within-last a n x = bool-iff (leb a x && ltb x (a + suc n)) (leb a x && ltb x (a
             and-on (leb a x) (ltb x (a + suc n)) (le-leb a x (omega arith)) (lt-ltb x (a + suc n) (omega arith))
 
 -- One layer of the mip m more.
-layer-further : (t m l n : ℕ) (u : Surface) → hits (rangeAt t m 1 l (suc n)) u ≡ (hits (rangeAt t m 1 l n) u || same u (surfaceAt t m (l + n)))
+layer-further : (t m l n k : ℕ) (u : Surface) → hits (rangeAt t m 1 l (suc n) k) u ≡ (hits (rangeAt t m 1 l n k) u || same u (surfaceAt t m (l + n) k))
 unfolding hits same
-layer-further t m l n u =
-    ap (λ q. (eqb (u .texture) t && within m 1 (u .mip)) && q) (within-last l n (u .layer))
-    ∙ sym (or-factor (eqb (u .texture) t && within m 1 (u .mip)) (within l n (u .layer)) (eqb (u .layer) (l + n)))
-    ∙ ap (λ q. ((eqb (u .texture) t && within m 1 (u .mip)) && within l n (u .layer)) || ((eqb (u .texture) t && q) && eqb (u .layer) (l + n))) (within-one m (u .mip))
+layer-further t m l n k u =
+    let before : Bool → Bool = λ q. (eqb (u .texture) t && q) && eqb (u .slice) k in
+    ap (λ q. before (within m 1 (u .mip)) && q) (within-last l n (u .layer))
+    ∙ sym (or-factor (before (within m 1 (u .mip))) (within l n (u .layer)) (eqb (u .layer) (l + n)))
+    ∙ ap (λ q. (before (within m 1 (u .mip)) && within l n (u .layer)) || (before q && eqb (u .layer) (l + n))) (within-one m (u .mip))
 
--- One mip more.
-mip-further : (t m n l c : ℕ) (u : Surface) → hits (rangeAt t m (suc n) l c) u ≡ (hits (rangeAt t m n l c) u || hits (rangeAt t (m + n) 1 l c) u)
+-- One mip of a range more.
+mip-further : (r : Range) (n : ℕ) (u : Surface) → hits (firstMips r (suc n)) u ≡ (hits (firstMips r n) u || hits (mipOf r n) u)
 unfolding hits
-mip-further t m n l c u =
-    ap (λ q. (eqb (u .texture) t && q) && within l c (u .layer)) (within-last m n (u .mip) ∙ ap (λ q. within m n (u .mip) || q) (sym (within-one (m + n) (u .mip))))
-    ∙ spread (eqb (u .texture) t) (within m n (u .mip)) (within (m + n) 1 (u .mip)) (within l c (u .layer))
+mip-further r n u =
+    ap (λ q. ((eqb (u .texture) (r .texture) && q) && eqb (u .slice) (r .slice)) && within (r .layer) (r .layers) (u .layer))
+    (within-last (r .mip) n (u .mip) ∙ ap (λ q. within (r .mip) n (u .mip) || q) (sym (within-one (r .mip + n) (u .mip))))
+    ∙ spread (eqb (u .texture) (r .texture)) (within (r .mip) n (u .mip)) (within (r .mip + n) 1 (u .mip)) (eqb (u .slice) (r .slice)) (within (r .layer) (r .layers) (u .layer))
   where
-    spread : (a w v l : Bool) → ((a && (w || v)) && l) ≡ (((a && w) && l) || ((a && v) && l))
-    spread true true true true = refl
-    spread true true true false = refl
-    spread true true false true = refl
-    spread true true false false = refl
-    spread true false v l = refl
-    spread false w v l = refl
+    spread : (a w v k l : Bool) → (((a && (w || v)) && k) && l) ≡ ((((a && w) && k) && l) || (((a && v) && k) && l))
+    spread true true true true true = refl
+    spread true true true true false = refl
+    spread true true true false l = refl
+    spread true true false true true = refl
+    spread true true false true false = refl
+    spread true true false false l = refl
+    spread true false v k l = refl
+    spread false w v k l = refl
 
 -- ── sweeps
 
@@ -97,51 +103,94 @@ sweep-idle f h (s ∷ ss) (b ∷ bs) = ap₂ _∷_ (h s b) (sweep-idle f h ss bs
 abbrev pub acting : (ℕ → ℕ) → Range → Surface → ℕ → ℕ
 acting g r u b = cond (hits r u) (g b) b
 
-module _ (S : Session) (g : ℕ → ℕ) (twice : (b : ℕ) → g (g b) ≡ g b) (t : ℕ) (in-textures : t < S .textureCount) where
-  no-layers : (m l : ℕ) (u : Surface) → hits (rangeAt t m 1 l 0) u ≡ false
-  unfolding hits
-  no-layers m l u = ap (λ q. (eqb (u .texture) t && within m 1 (u .mip)) && q) (within-none l (u .layer)) ∙ and-false (eqb (u .texture) t && within m 1 (u .mip))
+-- ── a range
 
-  no-mips : (m l c : ℕ) (u : Surface) → hits (rangeAt t m 0 l c) u ≡ false
-  unfolding hits
-  no-mips m l c u = ap (λ q. (eqb (u .texture) t && q) && within l c (u .layer)) (within-none m (u .mip)) ∙ ap (λ q. q && within l c (u .layer)) (and-false (eqb (u .texture) t))
+-- There is a surface in each mip.
+mips-some : (x : Texture) (n : ℕ) → 1 ≤ arrayLayers x → n ≤ mipsBefore x n
+unfolding mipsBefore
+mips-some x zero h = omega arith
+mips-some x (suc n) h = omega (arith, mips-some x n h, mul-le-mul (slices-some x n) h)
 
-  -- The first n layers of a mip, from layer l on.
-  pub run-sweeps : (m l n : ℕ) (bytes : List ℕ) → m < S .texture t .mips → l + n ≤ arrayLayers (S .texture t) → surfaceCount S ≤ length bytes
-      → run g (surfaceIndex S (surfaceAt t m l)) n bytes ≡ sweep (acting g (rangeAt t m 1 l n)) (surfacesOf S) bytes
-  unfolding run
-  run-sweeps m l zero bytes hm hl room = sym (sweep-idle (acting g (rangeAt t m 1 l 0)) (λ u b. ap (λ q. cond q (g b) b) (no-layers m l u)) (surfacesOf S) bytes)
-  run-sweeps m l (suc n) bytes hm hl room =
-      let s : Surface = surfaceAt t m (l + n) in
-      let at : ℕ = surfaceIndex S (surfaceAt t m l) in
-      let next : at + n ≡ surfaceIndex S s = omega arith in
-      let ok : Inside S s = record { texture = in-textures; mip = hm; layer = omega arith } in
-      let so-far = sweep (acting g (rangeAt t m 1 l n)) (surfacesOf S) bytes in
-      (λ q. let r = run-sweeps m l n bytes hm (omega arith) room q in set r (next q) (g (getD r (next q) 0)))
-      ∙ sym (sweep-only S g s ok so-far (omega (arith, sweep-length (acting g (rangeAt t m 1 l n)) (surfacesOf S) bytes)))
-      ∙ sweep-either g twice (λ u. hits (rangeAt t m 1 l n) u) (λ u. same u s) (surfacesOf S) bytes
-      ∙ sweep-same (λ u b. cond (hits (rangeAt t m 1 l n) u || same u s) (g b) b) (acting g (rangeAt t m 1 l (suc n))) (λ u b. ap (λ q. cond q (g b) b) (sym (layer-further t m l n u))) (surfacesOf S) bytes
+module _ (S : Session) (r : Range) (ok : RangeInside S r) where
+  -- Layer j of mip m of the range.
+  abbrev pub part : ℕ → ℕ → Surface
+  part m j = surfaceAt (r .texture) (r .mip + m) (r .layer + j) (r .slice)
 
-  -- The first n mips of a range, from mip m on.
-  pub rows-sweeps : (m l c n : ℕ) (bytes : List ℕ) → m + n ≤ S .texture t .mips → l + c ≤ arrayLayers (S .texture t) → surfaceCount S ≤ length bytes
-      → rows g (surfaceIndex S (surfaceAt t m l)) (arrayLayers (S .texture t)) c n bytes ≡ sweep (acting g (rangeAt t m n l c)) (surfacesOf S) bytes
-  unfolding rows
-  rows-sweeps m l c zero bytes hm hl room = sym (sweep-idle (acting g (rangeAt t m 0 l c)) (λ u b. ap (λ q. cond q (g b) b) (no-mips m l c u)) (surfacesOf S) bytes)
-  rows-sweeps m l c (suc n) bytes hm hl room =
-      let stride : ℕ = arrayLayers (S .texture t) in
-      let next : surfaceIndex S (surfaceAt t m l) + n * stride ≡ surfaceIndex S (surfaceAt t (m + n) l) = omega (arith, add-mul m n stride) in
-      let so-far = sweep (acting g (rangeAt t m n l c)) (surfacesOf S) bytes in
-      (λ q. run g (next q) c (rows-sweeps m l c n bytes (omega arith) hl room q))
-      ∙ run-sweeps (m + n) l c so-far (omega arith) hl (omega (arith, sweep-length (acting g (rangeAt t m n l c)) (surfacesOf S) bytes))
-      ∙ sweep-either g twice (λ u. hits (rangeAt t m n l c) u) (λ u. hits (rangeAt t (m + n) 1 l c) u) (surfacesOf S) bytes
-      ∙ sweep-same (λ u b. cond (hits (rangeAt t m n l c) u || hits (rangeAt t (m + n) 1 l c) u) (g b) b) (acting g (rangeAt t m (suc n) l c)) (λ u b. ap (λ q. cond q (g b) b) (sym (mip-further t m n l c u))) (surfacesOf S) bytes
+  part-inside : (m j : ℕ) → m < r .mips → j < r .layers → Inside S (part m j)
+  part-inside m j hm hj = record {
+    texture = ok .texture;
+    mip = omega (arith, ok .mips);
+    layer = omega (arith, ok .layers);
+    slice = omega (arith, ok .slice, slices-later (S .texture (r .texture)) (r .mip + m) (r .mip + r .mips - 1) (omega arith));
+  }
 
--- An action at every surface of its range.
-pub action-sweeps : (S : Session) (r : Range) (k : MemoryInitKind) (bytes : List ℕ) → RangeInside S r → surfaceCount S ≤ length bytes
-    → rows (actByte k) (surfaceIndex S (surfaceAt (r .texture) (r .mip) (r .layer))) (arrayLayers (S .texture (r .texture))) (r .layers) (r .mips) bytes
-    ≡ sweep (actAt (actionOf r k)) (surfacesOf S) bytes
-action-sweeps S r k bytes ok room =
-    rows-sweeps S (actByte k) (act-twice k) (r .texture) (ok .texture) (r .mip) (r .layer) (r .layers) (r .mips) bytes (ok .mips) (ok .layers) room
+  -- The first layer of mip m.
+  abbrev pub first : ℕ → Surface
+  first m = surfaceAt (r .texture) (r .mip + m) (r .layer) (r .slice)
+
+  pub first-inside : (m : ℕ) → m < r .mips → Inside S (first m)
+  first-inside m hm =
+      let e : r .layer + 0 ≡ r .layer = omega arith in
+      subst (λ l. Inside S (surfaceAt (r .texture) (r .mip + m) l (r .slice))) e (part-inside m 0 hm (omega (arith, ok .some-layer)))
+
+  -- The number of a mip is small, since there are no fewer surfaces before it.
+  pub mip-fits : (m : ℕ) → m < r .mips → r .mip + m < surfaceCount S
+  mip-fits m hm = omega (arith, place-counted S (first m) (first-inside m hm), mips-some (S .texture (r .texture)) (r .mip + m) (omega (arith, ok .some-layer, ok .layers)))
+
+  pub run-fits : (m : ℕ) → m < r .mips → surfaceIndex S (first m) + r .layers ≤ surfaceCount S
+  run-fits m hm = omega (arith, ok .some-layer, place-counted S (part m (r .layers - 1)) (part-inside m (r .layers - 1) hm (omega (arith, ok .some-layer))))
+
+  module _ (g : ℕ → ℕ) (twice : (b : ℕ) → g (g b) ≡ g b) where
+    no-layers : (m : ℕ) (u : Surface) → hits (rangeAt (r .texture) m 1 (r .layer) 0 (r .slice)) u ≡ false
+    unfolding hits
+    no-layers m u =
+        let before : Bool = (eqb (u .texture) (r .texture) && within m 1 (u .mip)) && eqb (u .slice) (r .slice) in
+        ap (λ q. before && q) (within-none (r .layer) (u .layer)) ∙ and-false before
+
+    -- The first n layers of a mip of the range.
+    run-sweeps : (m n : ℕ) (bytes : List ℕ) → m < r .mips → n ≤ r .layers → surfaceCount S ≤ length bytes
+        → run g (surfaceIndex S (first m)) n bytes ≡ sweep (acting g (rangeAt (r .texture) (r .mip + m) 1 (r .layer) n (r .slice))) (surfacesOf S) bytes
+    unfolding run
+    run-sweeps m zero bytes hm hn room =
+        sym (sweep-idle (acting g (rangeAt (r .texture) (r .mip + m) 1 (r .layer) 0 (r .slice))) (λ u b. ap (λ q. cond q (g b) b) (no-layers (r .mip + m) u)) (surfacesOf S) bytes)
+    run-sweeps m (suc n) bytes hm hn room =
+        let s : Surface = part m n in
+        let next : surfaceIndex S (first m) + n ≡ surfaceIndex S s = omega arith in
+        let layers : ℕ → Range = λ c. rangeAt (r .texture) (r .mip + m) 1 (r .layer) c (r .slice) in
+        let so-far = sweep (acting g (layers n)) (surfacesOf S) bytes in
+        (λ q. let x = run-sweeps m n bytes hm (omega arith) room q in set x (next q) (g (getD x (next q) 0)))
+        ∙ sym (sweep-only S g s (part-inside m n hm (omega arith)) so-far (omega (arith, sweep-length (acting g (layers n)) (surfacesOf S) bytes)))
+        ∙ sweep-either g twice (λ u. hits (layers n) u) (λ u. same u s) (surfacesOf S) bytes
+        ∙ sweep-same (λ u b. cond (hits (layers n) u || same u s) (g b) b) (acting g (layers (suc n)))
+        (λ u b. ap (λ q. cond q (g b) b) (sym (layer-further (r .texture) (r .mip + m) (r .layer) n (r .slice) u))) (surfacesOf S) bytes
+
+  module _ (k : MemoryInitKind) where
+    abbrev swept : Range → List ℕ → List ℕ
+    swept x bytes = sweep (actAt (actionOf x k)) (surfacesOf S) bytes
+
+    -- A mip of the range.
+    pub mip-sweeps : (m at n : ℕ) (bytes : List ℕ) → m < r .mips → surfaceCount S ≤ length bytes → at ≡ surfaceIndex S (first m) → n ≡ r .layers
+        → run (actByte k) at n bytes ≡ swept (mipOf r m) bytes
+    mip-sweeps m at n bytes hm room ea en = (λ q. run (actByte k) (ea q) (en q) bytes) ∙ run-sweeps (actByte k) (act-twice k) m (r .layers) bytes hm (omega arith) room
+
+    -- No mip, and one more.
+    no-mips : (u : Surface) → hits (firstMips r 0) u ≡ false
+    unfolding hits
+    no-mips u =
+        ap (λ q. ((eqb (u .texture) (r .texture) && q) && eqb (u .slice) (r .slice)) && within (r .layer) (r .layers) (u .layer)) (within-none (r .mip) (u .mip))
+        ∙ ap (λ q. (q && eqb (u .slice) (r .slice)) && within (r .layer) (r .layers) (u .layer)) (and-false (eqb (u .texture) (r .texture)))
+
+    pub mips-none : (bytes : List ℕ) → bytes ≡ swept (firstMips r 0) bytes
+    mips-none bytes = sym (sweep-idle (acting (actByte k) (firstMips r 0)) (λ u b. ap (λ q. cond q (actByte k b) b) (no-mips u)) (surfacesOf S) bytes)
+
+    pub mips-further : (m : ℕ) (bytes₀ bytes bytes′ : List ℕ) → bytes ≡ swept (firstMips r m) bytes₀ → bytes′ ≡ swept (mipOf r m) bytes → bytes′ ≡ swept (firstMips r (m + 1)) bytes₀
+    mips-further m bytes₀ bytes bytes′ e e′ =
+        e′
+        ∙ ap (swept (mipOf r m)) e
+        ∙ sweep-either (actByte k) (act-twice k) (λ u. hits (firstMips r m) u) (λ u. hits (mipOf r m) u) (surfacesOf S) bytes₀
+        ∙ sweep-same (λ u b. cond (hits (firstMips r m) u || hits (mipOf r m) u) (actByte k b) b) (acting (actByte k) (firstMips r (suc m)))
+        (λ u b. ap (λ q. cond q (actByte k b) b) (sym (mip-further r m u))) (surfacesOf S) bytes₀
+        ∙ ap (λ (q : ℕ). swept (firstMips r q) bytes₀) (sym (add-one m))
 
 -- ── the steps of a submission
 
@@ -155,7 +204,7 @@ restart-sweeps ss (suc n) bytes room h =
     sweep-past (λ s b. restart b) (take n ss) bytes n (omega (arith, length-take-le n ss (omega arith))) in
     (λ q. let r = restart-sweeps ss n bytes room (omega arith) q in set r (at q) (restart (getD r (at q) 0)))
     ∙ ap (λ b. set (sweep (λ s b. restart b) (take n ss) bytes) n (restart b)) same-byte
-    ∙ sym (sweep-turn (λ s b. restart b) ss bytes n (surfaceAt 0 0 0) (omega arith) (omega arith))
+    ∙ sym (sweep-turn (λ s b. restart b) ss bytes n (surfaceAt 0 0 0 0) (omega arith) (omega arith))
     ∙ ap (λ (q : ℕ). sweep (λ s b. restart b) (take q ss) bytes) (add-one n)
 
 pub restart-all : (S : Session) (bytes : List ℕ) → surfaceCount S ≤ length bytes → run restart 0 (surfaceCount S) bytes ≡ sweep (λ s b. restart b) (surfacesOf S) bytes
@@ -207,31 +256,3 @@ submit-all S a d bytes b₁ b₂ b₃ n room e₀ e₁ e₂ e₃ =
     e₃
     ∙ ap (sweep (emptyAt d) (surfacesOf S)) (e₂ ∙ ap (sweepActs a (surfacesOf S)) (e₁ ∙ ap (λ (q : ℕ). run restart 0 q bytes) e₀ ∙ restart-all S bytes room))
     ∙ sym (submit-sweeps a d (surfacesOf S) bytes)
-
--- ── the rows of a range are within the bytes
-
-module _ (S : Session) (r : Range) (ok : RangeInside S r) where
-  pub layers-fit : arrayLayers (S .texture (r .texture)) ≤ surfaceCount S
-  layers-fit =
-      let l : ℕ = arrayLayers (S .texture (r .texture)) in
-      let last : Inside S (surfaceAt (r .texture) (r .mip) (l - 1)) =
-      record { texture = ok .texture; mip = omega (arith, ok .mips, ok .some-mip); layer = omega (arith, ok .layers, ok .some-layer) } in
-      omega (arith, place-counted S (surfaceAt (r .texture) (r .mip) (l - 1)) last)
-
-  pub row-fits : (m : ℕ) → m < r .mips → surfaceIndex S (firstOf r) + m * arrayLayers (S .texture (r .texture)) + r .layers ≤ surfaceCount S
-  row-fits m h =
-      let l : ℕ = arrayLayers (S .texture (r .texture)) in
-      let s : Surface = surfaceAt (r .texture) (r .mip + m) (r .layer + (r .layers - 1)) in
-      let last : Inside S s =
-      record { texture = ok .texture; mip = omega (arith, ok .mips); layer = omega (arith, ok .layers, ok .some-layer) } in
-      omega (arith, place-counted S s last, add-mul (r .mip) m l, ok .some-layer)
-
--- The rows of a range from the values that the code has for its parts.
-pub rows-room : (S : Session) (r : Range) → RangeInside S r → (first stride count n room : ℕ) → first ≡ surfaceIndex S (firstOf r) → stride ≡ arrayLayers (S .texture (r .texture)) → count ≡ r .layers → n ≡ r .mips
-    → surfaceCount S ≤ maxSurfaces → surfaceCount S ≤ room → (stride ≤ maxSurfaces) × ((m : ℕ) → m < n → (first + m * stride ≤ maxSurfaces) × (first + m * stride + count ≤ room))
-rows-room S r ok first stride count n room ef es ec en most long = (omega (arith, layers-fit S r ok), λ m h. (omega (arith, row m h), omega (arith, row m h)))
-  where
-    row : (m : ℕ) → m < n → first + m * stride + count ≤ surfaceCount S
-    row m h =
-        let e : first + m * stride + count ≡ surfaceIndex S (firstOf r) + m * arrayLayers (S .texture (r .texture)) + r .layers = λ q. ef q + m * es q + ec q in
-        omega (arith, row-fits S r ok m (omega arith))

@@ -4,29 +4,29 @@ use definition::MemoryInitKind;
 use definition::Range;
 use definition::Surface;
 use definition::sizes::MAX_TEXTURES;
-use memory_init::Counts;
-use records::first_of;
-use records::kind_at;
-use records::range_at;
-use records::surface_at;
-use session::derived::array_layers;
+use lent::right::kind_in;
+use lent::right::range_in;
+use lent::right::surface_in;
 use session::header::texture_count;
+use session::surfaces::surface_offset;
 use session::surfaces::surfaces_in;
 use session::texture;
+use wire::u32_at;
 ghost use mathlib.Core.Path.{_≡_};
 ghost use Prim.Native.Nat.{ℕ, _+_, _*_, _≤_, _<_};
 ghost use lib.ListN.{length};
-ghost use Rattle.definition.specs.Sizes.{maxSurfaces, surfaceNumbers, actionNumbers};
+ghost use Rattle.definition.specs.Sizes.{maxSurfaces, surfaceNumbers, actionNumbers, listBytes};
 ghost use Rattle.definition.specs.Session.{session, surfaceCount, surfaceIndex, surfacesOf};
 ghost use Rattle.definition.specs.Status as Status;
 ghost use Rattle.definition.specs.Submission.{submitBytes};
 ghost use Rattle.definition.specs.Calls.{surfacesRight, actionsRight};
 ghost use Rattle.laws.specs.Surfaces.{Inside, RangeInside};
 ghost use Rattle.laws.specs.Submission.{sweep, actAt, emptyAt, sweepActs};
-ghost use Rattle.records.specs.Lent as Lent;
-ghost use Rattle.records.specs.Lent.{surfaces, actionOf};
+ghost use Rattle.records.specs.Lent.{actionOf};
+ghost use Rattle.lent.specs.Packed.{countIn};
+ghost use Rattle.lent.specs.State.{surfacesIn, actionsIn};
 ghost use mathlib.Core.Bool.{true};
-ghost use Rattle.submission.specs.Runs.{run, rows, Bases, Submits};
+ghost use Rattle.submission.specs.Runs.{run, mipOf, Bases, Submits};
 
 // A number as an index.
 fn wide(x: u32) -> usize
@@ -83,7 +83,7 @@ fn restart_bytes(status: &mut [u8], n: usize)
     }
 }
 
-// An action at n bytes from a place on: the layers of a mip stand side by side.
+// An action at n bytes from a place on.
 fn act_run(status: &mut [u8], at: usize, n: usize, kind: MemoryInitKind)
     requires { ⌜ at + n ≤ length (now status) ⌝ }
     ensures { λ _. ⌜ now (status .exit) ≡ run (Status.actByte kind) at n (now (status .entry)) ⌝ }
@@ -93,29 +93,6 @@ fn act_run(status: &mut [u8], at: usize, n: usize, kind: MemoryInitKind)
         let j = at + layer;
         status[j] = act_byte(kind, status[j]);
         layer += 1;
-    }
-}
-
-// An action at `count` bytes of each of n rows.
-fn act_rows(
-    status: &mut [u8],
-    first: usize,
-    stride: usize,
-    count: usize,
-    n: usize,
-    kind: MemoryInitKind,
-)
-    requires { ⌜
-        (stride ≤ maxSurfaces)
-        × ((m : ℕ) → m < n → (first + m * stride ≤ maxSurfaces) × (first + m * stride + count ≤ length (now status))) ⌝ }
-    ensures { λ _. ⌜ now (status .exit) ≡ rows (Status.actByte kind) first stride count n (now (status .entry)) ⌝ }
-{
-    let mut at = first;
-    let mut i: usize = 0;
-    while i < n {
-        act_run(status, at, count, kind);
-        at += stride;
-        i += 1;
     }
 }
 
@@ -140,7 +117,7 @@ fn texture_bases(s: &[u8], bases: &mut [usize]) -> usize
     sum
 }
 
-// A surface's place among the status bytes: by texture, mip, layer.
+// A surface's place among the status bytes: behind the textures before its own.
 fn surface_index(s: &[u8], bases: &[usize], x: Surface) -> usize
     requires { ⌜
         (let S = session (now s) in
@@ -148,8 +125,34 @@ fn surface_index(s: &[u8], bases: &[usize], x: Surface) -> usize
     ensures { λ r. ⌜ r ≡ surfaceIndex (session (now (s .entry))) x ⌝ }
 {
     let at = wide(x.texture);
-    let layers = wide(array_layers(texture(s, x.texture)));
-    bases[at] + wide(x.mip) * layers + wide(x.layer)
+    let offset = surface_offset(texture(s, x.texture), x);
+    bases[at] + offset as usize
+}
+
+// An action at mip m of its range, whose layers stand side by side.
+fn act_mip(s: &[u8], bases: &[usize], status: &mut [u8], range: Range, m: u32, kind: MemoryInitKind)
+    requires { ⌜
+        (let S = session (now s) in
+        Bases S (now bases)
+        × (RangeInside S range
+        × ((m < range .mips)
+        × ((surfaceCount S ≤ maxSurfaces) × (surfaceCount S ≤ length (now status)))))) ⌝ }
+    ensures { λ _. ⌜
+        (let S = session (now (s .entry)) in
+        now (status .exit) ≡ sweep (actAt (actionOf (mipOf range m) kind)) (surfacesOf S) (now (status .entry))) ⌝ }
+{
+    let first = Surface {
+        texture: range.texture,
+        mip: range.mip + m,
+        layer: range.layer,
+        slice: range.slice,
+    };
+    act_run(
+        status,
+        surface_index(s, bases, first),
+        wide(range.layers),
+        kind,
+    );
 }
 
 // An action: every surface of its range, mip by mip.
@@ -163,74 +166,65 @@ fn act(s: &[u8], bases: &[usize], status: &mut [u8], range: Range, kind: MemoryI
         (let S = session (now (s .entry)) in
         now (status .exit) ≡ sweep (actAt (actionOf range kind)) (surfacesOf S) (now (status .entry))) ⌝ }
 {
-    let first = surface_index(s, bases, first_of(range));
-    let layers = wide(array_layers(texture(s, range.texture)));
-    act_rows(
-        status,
-        first,
-        layers,
-        wide(range.layers),
-        wide(range.mips),
-        kind,
-    );
+    let mut m = 0u32;
+    while m < range.mips {
+        act_mip(s, bases, status, range, m, kind);
+        m += 1;
+    }
 }
 
-// The first n actions, in order.
-fn run_actions(s: &[u8], bases: &[usize], status: &mut [u8], l: &[u32], n: usize)
+// The actions of a lent list, in order.
+fn run_actions(s: &[u8], bases: &[usize], status: &mut [u8], b: &[u8])
     requires { ⌜
         (let S = session (now s) in
         Bases S (now bases)
-        × ((actionsRight S (Lent.actions n (now l)) ≡ true)
-        × ((actionNumbers * n ≤ length (now l))
+        × ((actionsRight S (actionsIn (now b)) ≡ true)
+        × ((listBytes actionNumbers (countIn (now b)) ≤ length (now b))
         × ((surfaceCount S ≤ maxSurfaces) × (surfaceCount S ≤ length (now status)))))) ⌝ }
     ensures { λ _. ⌜
         (let S = session (now (s .entry)) in
-        now (status .exit) ≡ sweepActs (Lent.actions n (now (l .entry))) (surfacesOf S) (now (status .entry))) ⌝ }
+        now (status .exit) ≡ sweepActs (actionsIn (now (b .entry))) (surfacesOf S) (now (status .entry))) ⌝ }
 {
+    let n = wide(u32_at(b, 0));
     let mut i: usize = 0;
     while i < n {
-        act(s, bases, status, range_at(l, i), kind_at(l, i));
+        act(s, bases, status, range_in(b, i), kind_in(b, i));
         i += 1;
     }
 }
 
-// The first n discards mark empty.
-fn run_discards(s: &[u8], bases: &[usize], status: &mut [u8], l: &[u32], n: usize)
+// The discards of a lent list mark empty.
+fn run_discards(s: &[u8], bases: &[usize], status: &mut [u8], b: &[u8])
     requires { ⌜
         (let S = session (now s) in
         Bases S (now bases)
-        × ((surfacesRight S (surfaces n (now l)) ≡ true)
-        × ((surfaceNumbers * n ≤ length (now l))
+        × ((surfacesRight S (surfacesIn (now b)) ≡ true)
+        × ((listBytes surfaceNumbers (countIn (now b)) ≤ length (now b))
         × ((surfaceCount S ≤ maxSurfaces) × (surfaceCount S ≤ length (now status)))))) ⌝ }
     ensures { λ _. ⌜
         (let S = session (now (s .entry)) in
-        now (status .exit) ≡ sweep (emptyAt (surfaces n (now (l .entry)))) (surfacesOf S) (now (status .entry))) ⌝ }
+        now (status .exit) ≡ sweep (emptyAt (surfacesIn (now (b .entry)))) (surfacesOf S) (now (status .entry))) ⌝ }
 {
+    let n = wide(u32_at(b, 0));
     let mut i: usize = 0;
     while i < n {
-        let at = surface_index(s, bases, surface_at(l, i));
+        let at = surface_index(s, bases, surface_in(b, i));
         status[at] = empty_byte(status[at]);
         i += 1;
     }
 }
 
-// A submission. Both lists are then empty and the clears stay; bytes past the last surface are neither read nor written.
-pub fn submit(s: &[u8], discards: &[u32], actions: &[u32], n: Counts, status: &mut [u8]) -> Counts
-    requires { ⌜ Submits (session (now s)) n (now discards) (now actions) (now status) ⌝ }
-    ensures { λ r. ⌜
-        (let d = Lent.surfaces (n .discards) (now (discards .entry)) in
-        let a = Lent.actions (n .actions) (now (actions .entry)) in
-        (now (status .exit) ≡ submitBytes a d (surfacesOf (session (now (s .entry)))) (now (status .entry)))
-        × (r ≡ record { discards = 0; actions = 0; clears = n .clears })) ⌝ }
+// A submission of two lent lists, read where they stand; bytes past the last surface are neither read nor written.
+pub fn submit(s: &[u8], discards: &[u8], actions: &[u8], status: &mut [u8])
+    requires { ⌜ Submits (session (now s)) (now discards) (now actions) (now status) ⌝ }
+    ensures { λ _. ⌜
+        (let d = surfacesIn (now (discards .entry)) in
+        let a = actionsIn (now (actions .entry)) in
+        now (status .exit) ≡ submitBytes a d (surfacesOf (session (now (s .entry)))) (now (status .entry))) ⌝ }
 {
     let mut bases: [usize; MAX_TEXTURES as usize] = [0; MAX_TEXTURES as usize];
     let count = texture_bases(s, &mut bases);
     restart_bytes(status, count);
-    run_actions(s, &bases, status, actions, n.actions);
-    run_discards(s, &bases, status, discards, n.discards);
-    Counts {
-        discards: 0,
-        actions: 0,
-        clears: n.clears,
-    }
+    run_actions(s, &bases, status, actions);
+    run_discards(s, &bases, status, discards);
 }

@@ -1,17 +1,23 @@
 //! A fixed list of sessions with the Rust's answers, to be replayed without Rust. README.md has the
-//! form.
+//! form, and what is the model's.
 
 use std::collections::BTreeMap;
 
+use compare::rust;
 use interface::{surface_fields, Desk, Lists, Reply};
+use sessions::colour_bytes::targets;
 use sessions::layout::{COUNT_LEN, FIELD_LEN, NONE, SLOTS};
 use sessions::layout::{PASS_COUNT_AT, PASS_ENDS_AT, PASS_LEN};
 use sessions::random::{self, Prng};
 use sessions::reply::{Answer, Judged};
-use sessions::{damage, text, Pass, Session};
+use sessions::{damage, enumerate, reader, text, Pass, Session};
 
 use crate::expected::{answer, reply_record};
 use crate::reference::row_numbers;
+
+/// Seed and sessions of the committed list.
+pub const SEED: u64 = 9_020;
+pub const SESSIONS: usize = 510;
 
 /// A session with its answer words.
 #[derive(Clone, Debug, PartialEq, Eq)]
@@ -23,7 +29,8 @@ pub struct Record {
 impl Record {
     /// A session with the Rust's answers.
     pub fn new(session: Vec<u8>) -> Record {
-        let expected = answer(oracle::run(&session), &model::run(&session));
+        let model = model::run(&session);
+        let expected = answer(&session, rust(&session, &model), &model);
         Record {
             words: words(&expected),
             session,
@@ -92,17 +99,20 @@ fn packed(bytes: &[u8]) -> impl Iterator<Item = u32> + '_ {
     })
 }
 
+/// Sessions of the list that are of the systematic set of slices.
+const SLICED: usize = 48;
 /// How often a kind of pass is wanted.
 const OFTEN: u32 = 6;
 /// Largest record of the list, in bytes.
 const LARGEST: usize = 2_000;
 
-/// A list of sessions from a seed: document 01's example, then small sessions, those that show
-/// something rare first; one of twelve is damaged.
+/// A list of sessions from a seed: document 01's example and buffers of slices, then small sessions,
+/// those that show something rare first; one of twelve is damaged.
 pub fn list(seed: u64, sessions: usize) -> Vec<Record> {
     let mut prng = Prng::new(seed);
-    let mut seen: BTreeMap<[u32; 6], u32> = BTreeMap::new();
+    let mut seen: BTreeMap<Kind, u32> = BTreeMap::new();
     let mut all = vec![Record::new(text::document_01())];
+    all.extend((0..SLICED).map(|_| Record::new(buffer_of_slices(&mut prng))));
     while all.len() < sessions {
         let record = Record::new(candidate(&mut prng));
         let kinds = kinds(&record.session);
@@ -118,8 +128,15 @@ pub fn list(seed: u64, sessions: usize) -> Vec<Record> {
     all
 }
 
+/// What tells kinds of answers apart.
+type Kind = [u32; 7];
+
 /// What kinds of answers a session shows.
-fn kinds(session: &[u8]) -> Vec<[u32; 6]> {
+fn kinds(bytes: &[u8]) -> Vec<Kind> {
+    let session = match reader::read(bytes) {
+        Err(number) => return vec![[number, 0, 0, 0, 0, 0, 0]],
+        Ok(session) => session,
+    };
     let kind = |row: &Judged| {
         let r = &row.reply;
         [
@@ -129,12 +146,26 @@ fn kinds(session: &[u8]) -> Vec<[u32; 6]> {
             r.divergent,
             r.attachments.first().map_or(0, |at| at.usage),
             u32::from(row.pass > 0),
+            u32::from(r.refusal == 51 && fits_unaligned(&session, &session.passes[row.pass])),
         ]
     };
-    match model::run(session) {
-        Err(number) => vec![[number, 0, 0, 0, 0, 0]],
-        Ok(rows) => rows.iter().map(kind).collect(),
-    }
+    let rows = model::run(bytes).unwrap_or_default();
+    rows.iter().map(kind).collect()
+}
+
+/// Whether the costs of a pass's colours are within the limit, alignment left out.
+fn fits_unaligned(session: &Session, pass: &Pass) -> bool {
+    let costs = targets(session, pass).into_iter().map(|(cost, _)| cost);
+    costs.sum::<u32>() <= session.colour_bytes
+}
+
+/// A buffer of two passes of the systematic set of slices.
+fn buffer_of_slices(prng: &mut Prng) -> Vec<u8> {
+    let sets = enumerate::slices_in_passes();
+    let mut session = sets[prng.below(sets.len() as u32) as usize].clone();
+    let buffer = prng.below(session.passes.len() as u32 / 2) as usize;
+    session.passes = session.passes[2 * buffer..2 * buffer + 2].to_vec();
+    session.to_bytes()
 }
 
 /// A small session: some passes of a random one with the rows that they name.
@@ -278,5 +309,5 @@ fn replayed_pass(pass: u32, reply: &Reply, lists: &Lists, words: &mut Vec<u32>) 
 
 /// Surfaces of a readable session.
 fn surfaces(session: &[u8]) -> u32 {
-    sessions::reader::read(session).map_or(0, |s| sessions::reader::surfaces(&s))
+    reader::read(session).map_or(0, |s| reader::surfaces(&s))
 }

@@ -1,11 +1,11 @@
 //! A session file through the C interface, call by call, against the Rust and the model: every
-//! field of every reply, every byte of the lent buffers, whole sessions, and calls on buffers that
-//! are short or off by one.
+//! field of every reply, every byte of the lent buffers, whole sessions, calls on buffers that are
+//! short or off by one, and the places of surfaces among the status bytes.
 
 use std::fmt;
 
 use compare::reduce::reduce;
-use compare::Counts;
+use compare::{rust, Counts};
 use interface::{Desk, Lists};
 use sessions::layout::COUNT_LEN;
 use sessions::random::{self, Prng};
@@ -15,6 +15,7 @@ use sessions::text;
 
 use crate::calls::{difference, make, Call, Outcome};
 use crate::expected::{after_pass, after_submission, answer, reply_record};
+use crate::surfaces;
 use crate::variants;
 use crate::whole;
 
@@ -24,11 +25,13 @@ pub struct Tally {
     pub answers: Counts,
     /// Calls on lent buffers that were made short or off by one.
     pub variants: variants::Seen,
+    /// Calls for the status byte of a surface.
+    pub surfaces: surfaces::Seen,
 }
 
 impl fmt::Display for Tally {
     fn fmt(&self, f: &mut fmt::Formatter) -> fmt::Result {
-        write!(f, "{}{}", self.answers, self.variants)
+        write!(f, "{}{}{}", self.answers, self.variants, self.surfaces)
     }
 }
 
@@ -41,22 +44,34 @@ pub fn hold(
     tally: &mut Tally,
 ) -> Result<(), String> {
     let (expected, model) = expected_answer(bytes)?;
-    tally.answers.add(&model);
+    tally.answers.add(bytes, &model);
     let filled = fresh(bytes, prng);
-    let states = walk(desk, bytes, &expected, &filled);
-    let states = states.and_then(|states| whole::hold(desk, bytes).map(|()| states));
-    match states {
-        Ok(states) => variants::hold(desk, bytes, &states, prng, &mut tally.variants)
-            .map_err(|wrong| format!("{wrong}{}", the_file(bytes))),
-        Err(_) => Err(smallest(desk, bytes, &filled)),
-    }
+    let Ok(states) = held(desk, bytes, &expected, &filled) else {
+        return Err(smallest(desk, bytes, &filled));
+    };
+    variants::hold(desk, bytes, &states, prng, &mut tally.variants)
+        .and_then(|()| surfaces::hold(desk, bytes, prng, &mut tally.surfaces))
+        .map_err(|wrong| format!("{wrong}{}", the_file(bytes)))
+}
+
+/// The file through the calls, and in one: the lists before each pass.
+fn held(
+    desk: &dyn Desk,
+    bytes: &[u8],
+    expected: &Answer,
+    fresh: &Lists,
+) -> Result<Vec<Lists>, String> {
+    let states = walk(desk, bytes, expected, fresh)?;
+    whole::hold(desk, bytes)?;
+    Ok(states)
 }
 
 /// The answers to hold the file to, and the model's.
 fn expected_answer(bytes: &[u8]) -> Result<(Answer, Answer), String> {
-    let (rust, model) = (oracle::run(bytes), model::run(bytes));
-    match first_difference(&rust, &model) {
-        None => Ok((answer(rust, &model), model)),
+    let model = model::run(bytes);
+    let rust = rust(bytes, &model);
+    match first_difference(bytes, &rust, &model) {
+        None => Ok((answer(bytes, rust, &model), model)),
         Some(wrong) => Err(format!("{wrong}{}", the_file(bytes))),
     }
 }
@@ -160,8 +175,7 @@ fn submission(
 /// The first thing that is wrong with the answers to a file, if any.
 fn fault(desk: &dyn Desk, bytes: &[u8], fresh: &Lists) -> Option<String> {
     let (expected, _) = expected_answer(bytes).ok()?;
-    let walked = walk(desk, bytes, &expected, fresh).err();
-    walked.or_else(|| whole::hold(desk, bytes).err())
+    held(desk, bytes, &expected, fresh).err()
 }
 
 /// A small file that shows a fault, and the fault.

@@ -13,6 +13,7 @@ use crate::calls::{difference, make, Call, Outcome};
 use crate::guard::Guarded;
 use crate::mutate::{change, Function, Input};
 use crate::reference::Model;
+use crate::surfaces;
 
 /// What a run has seen.
 #[derive(Clone, Debug, Default)]
@@ -143,6 +144,9 @@ fn answer(desk: &dyn Desk, input: &Input) -> Result<Outcome, String> {
     if let Some(call) = input.call() {
         return called(desk, input, call);
     }
+    if input.function == Function::Index {
+        return index(desk, input);
+    }
     let (got, expected) = (without_lists(desk, input)?, without_lists(&Model, input)?);
     if got == expected {
         let (number, rows) = got;
@@ -163,6 +167,15 @@ fn called(desk: &dyn Desk, input: &Input, call: Call) -> Result<Outcome, String>
         None => Ok(got),
         Some(wrong) => Err(format!("{call:?}\n{wrong}")),
     }
+}
+
+/// The place of a surface's byte.
+fn index(desk: &dyn Desk, input: &Input) -> Result<Outcome, String> {
+    let told = surfaces::one(desk, &input.session, &input.surface)?;
+    Ok(Outcome {
+        words: vec![told.number],
+        lists: input.lists.clone(),
+    })
 }
 
 /// A session's refusal, or a whole session: the number and the rows. A refusal leaves them.
@@ -207,9 +220,10 @@ fn told(input: &Input) -> String {
         status,
     } = &input.lists;
     format!(
-        "{:?} of pass {}, lent {} {} {} {} bytes with {:?} entries, {} bytes of rows\nthe file:\n{}",
+        "{:?} of pass {}, surface {}, lent {} {} {} {} bytes with {:?} entries, {} bytes of rows\nthe file:\n{}",
         input.function,
         input.pass,
+        input.surface,
         discards.len(),
         actions.len(),
         clears.len(),

@@ -12,6 +12,7 @@ pub mod guard;
 pub mod mutate;
 pub mod readers;
 pub mod reference;
+pub mod surfaces;
 pub mod variants;
 pub mod whole;
 pub mod words;

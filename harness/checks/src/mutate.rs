@@ -1,7 +1,7 @@
 //! Random changes of an input of the C functions: the session, the lent buffers, the call.
 
-use interface::put_records;
-use interface::{Lists, ACTIONS_LEN, CLEARS_LEN, DISCARDS_LEN, ROWS_LEN, STATUS_LEN};
+use interface::{action_fields, put_records, surface_fields, Action, Kind, Lists, Surface};
+use interface::{ACTIONS_LEN, CLEARS_LEN, DISCARDS_LEN, ROWS_LEN, STATUS_LEN};
 use sessions::damage;
 use sessions::layout::{ACTIONS, CLEARS, DISCARDS, FIELD_LEN, HEADER_LEN};
 use sessions::layout::{PASS_FRONT_LEN, PASS_LEN, SLOTS, SLOT_LEN, SLOT_OWN_FIELDS};
@@ -16,6 +16,7 @@ pub enum Function {
     Pass,
     Submit,
     Session,
+    Index,
 }
 
 /// An input: a function with all that it is handed.
@@ -27,6 +28,8 @@ pub struct Input {
     pub lists: Lists,
     /// Bytes of the rows.
     pub rows: usize,
+    /// The surface whose byte is asked for.
+    pub surface: Surface,
 }
 
 impl Input {
@@ -38,6 +41,7 @@ impl Input {
             pass: 0,
             lists: Lists::fresh(),
             rows: ROWS_LEN,
+            surface: Surface::default(),
         }
     }
 
@@ -46,14 +50,14 @@ impl Input {
         match self.function {
             Function::Pass => Some(Call::Pass(self.pass)),
             Function::Submit => Some(Call::Submit),
-            Function::Refusal | Function::Session => None,
+            Function::Refusal | Function::Session | Function::Index => None,
         }
     }
 }
 
 /// One change of the input; parts of the other may be taken over.
 pub fn change(input: &mut Input, other: &Input, prng: &mut Prng) {
-    match prng.below(16) {
+    match prng.below(17) {
         0 | 1 => input.session = damage::random(&input.session, prng),
         2..6 => pass_field(&mut input.session, prng),
         6 => move_pass(&mut input.session, prng),
@@ -64,6 +68,7 @@ pub fn change(input: &mut Input, other: &Input, prng: &mut Prng) {
         11 => list_field(&mut input.lists, prng),
         12 => status_byte(&mut input.lists.status, prng),
         13 => length(input, prng),
+        14 => input.surface = surface(prng),
         _ => input.function = function(prng),
     }
 }
@@ -71,7 +76,24 @@ pub fn change(input: &mut Input, other: &Input, prng: &mut Prng) {
 /// A function; most often a pass check.
 fn function(prng: &mut Prng) -> Function {
     use Function::*;
-    prng.pick(&[Pass, Pass, Pass, Pass, Submit, Submit, Session, Refusal])
+    prng.pick(&[
+        Pass, Pass, Pass, Pass, Submit, Submit, Session, Refusal, Index,
+    ])
+}
+
+/// A surface with small numbers, rarely with great ones.
+fn surface(prng: &mut Prng) -> Surface {
+    let mut number = |few: u32| match prng.below(30) {
+        0 => prng.bits() as u32,
+        1 => u32::MAX,
+        _ => prng.below(few),
+    };
+    Surface {
+        texture: number(4),
+        mip: number(3),
+        layer: number(3),
+        slice: number(5),
+    }
 }
 
 /// A pass number, rarely past the count.
@@ -163,8 +185,19 @@ fn list_field(lists: &mut Lists, prng: &mut Prng) {
 
 /// A list gets about as many records of one surface as it has room for.
 fn fill_list(lists: &mut Lists, prng: &mut Prng) {
-    let surface = [0, 0, prng.below(2)];
-    let action = [0, 0, 1, 0, 1, prng.below(2)];
+    let surface = Surface {
+        layer: u32::from(prng.chance(40)),
+        slice: u32::from(prng.chance(20)),
+        ..Surface::default()
+    };
+    let action = Action {
+        kind: prng.pick(&[Kind::Implicit, Kind::Needing]),
+        texture: 0,
+        mips: (0, 1 + u32::from(prng.chance(20))),
+        layers: (0, 1),
+        slice: u32::from(prng.chance(20)),
+    };
+    let (surface, action) = (surface_fields(&surface), action_fields(&action));
     let fewer = prng.below(12) as usize;
     let surfaces = |room: usize| (0..room - fewer).map(|_| surface);
     match prng.below(3) {

@@ -2,11 +2,13 @@
 
 use std::collections::BTreeMap;
 
+use sessions::crowd::crowd;
 use sessions::damage;
 use sessions::layout::*;
 use sessions::random::{self, Prng};
 use sessions::reader;
 use sessions::text;
+use sessions::Session;
 
 /// Answers by number; 0 counts readable files.
 pub type ByNumber = BTreeMap<u32, u64>;
@@ -125,6 +127,16 @@ fn bounds(field: usize) -> Vec<u32> {
 /// Damaged copies of each random session.
 const COPIES: u64 = 4;
 
+/// A random session; in one of ten cases one of about the most surfaces.
+fn session(prng: &mut Prng) -> Session {
+    let session = random::session(prng);
+    if prng.chance(10) {
+        crowd(session, prng)
+    } else {
+        session
+    }
+}
+
 /// This many damaged sessions from a seed: one to three random changes each. `shown` is told how
 /// many there were.
 pub fn damaged(
@@ -138,7 +150,7 @@ pub fn damaged(
     let mut whole = Vec::new();
     for number in 0..files {
         if number % COPIES == 0 {
-            whole = random::session(&mut prng).to_bytes();
+            whole = session(&mut prng).to_bytes();
         }
         let mut copy = damage::random(&whole, &mut prng);
         for _ in 0..prng.below(3) {

@@ -1,8 +1,10 @@
 //! The model behind the C interface: lent bytes to records, the model's call, records to bytes.
 
 use interface::{action_fields, put_records, surface_fields, u32_at};
-use interface::{Desk, Lent, Lists, Reply, ACTIONS_LEN, CLEARS_LEN, DISCARDS_LEN, STATUS_LEN};
-use interface::{ROWS_LEN, ROW_LEN, ROW_NUMBERS};
+use interface::{Desk, Index, Lent, Lists, Reply};
+use interface::{
+    ACTIONS_LEN, CLEARS_LEN, DISCARDS_LEN, ROWS_LEN, ROW_LEN, ROW_NUMBERS, STATUS_LEN,
+};
 use sessions::layout::{
     ACTIONS, ACTION_KIND_AT, ACTION_LEN, CLEARS, COUNT_LEN, DISCARDS, FIELD_LEN,
 };
@@ -50,6 +52,13 @@ impl Desk for Model {
             }
         }
     }
+
+    fn surface_index(&self, session: &[u8], surface: &Surface) -> Index {
+        match model::surface_index(session, surface) {
+            Ok(index) => Index { number: 0, index },
+            Err(number) => Index { number, index: 0 },
+        }
+    }
 }
 
 /// Writes the discards and the actions.
@@ -94,6 +103,7 @@ const NOWHERE: Surface = Surface {
     texture: u32::MAX,
     mip: 0,
     layer: 0,
+    slice: 0,
 };
 
 /// What is lent as the model's records. A buffer that is too short holds none: 6 comes first. A
@@ -125,6 +135,7 @@ fn decode(lent: &Lent) -> model::Lent {
             texture: NOWHERE.texture,
             mips: (0, 1),
             layers: (0, 1),
+            slice: 0,
         }]
     } else {
         lists.actions()

@@ -1,15 +1,16 @@
-//! Calls on lent buffers that are one byte short, and on counts, records and status bytes that are
-//! off by one. The model says what each should answer; a refusal leaves every byte.
+//! Calls on lent buffers that are one byte short, on counts, records and status bytes that are off by
+//! one, and on slices at the bounds of mips. The model says what each should answer; a refusal leaves
+//! every byte.
 
-use std::collections::BTreeMap;
+use std::collections::{BTreeMap, BTreeSet};
 use std::fmt;
 
-use interface::{u32_at, Desk, Lists, ACTIONS_LEN, CLEARS_LEN, DISCARDS_LEN, STATUS_LEN};
-use sessions::damage;
+use interface::{action_fields, surface_fields, u32_at, Action, Desk, Kind, Lists, Surface};
+use interface::{ACTIONS_LEN, CLEARS_LEN, DISCARDS_LEN, STATUS_LEN};
 use sessions::layout::{ACTIONS, ACTION_FIELDS, CLEARS, COUNT_LEN, DISCARDS};
 use sessions::layout::{FIELD_LEN, SURFACE_FIELDS};
 use sessions::random::Prng;
-use sessions::reader;
+use sessions::{damage, reader, Session};
 
 use crate::calls::{difference, make, Call};
 use crate::reference::Model;
@@ -48,8 +49,8 @@ pub fn hold(
     }
     let at = prng.below(states.len() as u32);
     let lists = &states[at as usize];
-    let surfaces = reader::read(bytes).map_or(0, |s| reader::surfaces(&s) as usize);
-    for (name, changed) in changed(lists, surfaces, prng) {
+    let session = reader::read(bytes).unwrap_or_default();
+    for (name, changed) in changed(lists, &session, prng) {
         for call in [Call::Pass(at), Call::Submit] {
             one(desk, bytes, call, &changed, seen).map_err(|e| format!("{name}: {e}"))?;
         }
@@ -101,10 +102,12 @@ fn one(
 }
 
 /// The buffers with one change each, and what it is.
-fn changed(lists: &Lists, surfaces: usize, prng: &mut Prng) -> Vec<(String, Lists)> {
+fn changed(lists: &Lists, session: &Session, prng: &mut Prng) -> Vec<(String, Lists)> {
+    let surfaces = reader::surfaces(session) as usize;
     let mut all = short(lists);
     all.extend(counts(lists));
     all.extend(records(lists, prng));
+    all.extend(last_records(lists, session, prng));
     all.extend(status_bytes(lists, surfaces, prng));
     all
 }
@@ -181,6 +184,65 @@ fn records(lists: &Lists, prng: &mut Prng) -> Vec<(String, Lists)> {
         }
     }
     all
+}
+
+/// A record more, or another last one: slices at and past the depth of a mip, alone and for several mips.
+fn last_records(lists: &Lists, session: &Session, prng: &mut Prng) -> Vec<(String, Lists)> {
+    let Some(number) = some_texture(session, prng) else {
+        return Vec::new();
+    };
+    let t = &session.textures[number];
+    let (a, b) = (prng.below(t.mips), prng.below(t.mips));
+    let (first, last) = (a.min(b), a.max(b));
+    let layer = prng.below(reader::layers(t));
+    let mut all = Vec::new();
+    for slice in around(&[reader::slices(t, first), reader::slices(t, last)]) {
+        let surface = surface_fields(&Surface {
+            texture: number as u32,
+            mip: last,
+            layer,
+            slice,
+        });
+        let action = action_fields(&Action {
+            kind: prng.pick(&[Kind::Implicit, Kind::Needing]),
+            texture: number as u32,
+            mips: (first, last + 1),
+            layers: (layer, layer + 1),
+            slice,
+        });
+        all.push(with_last(lists, 0, DISCARDS, &surface));
+        all.push(with_last(lists, 1, ACTIONS, &action));
+        all.push(with_last(lists, 2, CLEARS, &surface));
+    }
+    all
+}
+
+/// A texture of the session, if it has any: a 3D one if it has such.
+fn some_texture(session: &Session, prng: &mut Prng) -> Option<usize> {
+    let all: Vec<usize> = (0..session.textures.len()).collect();
+    let volume = |number: &usize| reader::is_volume(&session.textures[*number]);
+    let volumes: Vec<usize> = all.iter().copied().filter(volume).collect();
+    let choices = if volumes.is_empty() { all } else { volumes };
+    (!choices.is_empty()).then(|| prng.pick(&choices))
+}
+
+/// One below each number and the number itself, without repetition.
+fn around(numbers: &[u32]) -> BTreeSet<u32> {
+    numbers.iter().flat_map(|n| [n - 1, *n]).collect()
+}
+
+/// The buffers with a record behind a list's last, or in its place where the list is full.
+fn with_last(lists: &Lists, list: usize, room: usize, fields: &[u32]) -> (String, Lists) {
+    let (name, part) = LISTS[list];
+    let mut changed = lists.clone();
+    let count = (lists.counts()[list] as usize + 1).min(room);
+    let bytes = part(&mut changed);
+    bytes[..COUNT_LEN].copy_from_slice(&(count as u32).to_le_bytes());
+    let at = COUNT_LEN + (count - 1) * fields.len() * FIELD_LEN;
+    for (field, value) in bytes[at..].chunks_exact_mut(FIELD_LEN).zip(fields) {
+        field.copy_from_slice(&value.to_le_bytes());
+    }
+    (format!("{name}, last record {fields:?}"), changed)
 }
 
 /// A surface's status byte off by one and unlawful; the byte past the last surface unlawful.

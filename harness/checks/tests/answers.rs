@@ -3,11 +3,13 @@
 use std::collections::BTreeMap;
 use std::fs;
 
-use checks::answers::{from_bytes, list, replay, to_bytes, Record};
+use checks::answers::{from_bytes, list, replay, to_bytes, Record, SEED, SESSIONS};
 use checks::examples::repository;
 use checks::reference::Model;
+use compare::has_volume;
 use sessions::colour_bytes::{sum, targets};
 use sessions::reader::read;
+use sessions::reply::{Action, Lists, Surface};
 
 /// The committed list.
 fn committed() -> Vec<u8> {
@@ -16,7 +18,7 @@ fn committed() -> Vec<u8> {
 
 #[test]
 fn it_is_what_its_seed_makes() {
-    assert!(to_bytes(&list(9_019, 510)) == committed());
+    assert!(to_bytes(&list(SEED, SESSIONS)) == committed());
 }
 
 #[test]
@@ -82,6 +84,33 @@ fn it_shows_sums_around_the_limit() {
     }
     let shown = [over, only_aligned, later, reached];
     assert!(shown.iter().all(|times| *times >= 3), "{shown:?}");
+}
+
+/// Whether an entry of another slice is listed beside an action of its mip.
+fn stays_beside(lists: &Lists) -> bool {
+    let beside = |a: &Action| {
+        let of_mip = |s: &&Surface| s.texture == a.texture && s.mip == a.mips.0;
+        let mut of_mip = lists.discards.iter().filter(of_mip);
+        of_mip.any(|s| s.slice != a.slice)
+    };
+    lists.actions.iter().any(beside)
+}
+
+#[test]
+fn it_shows_slices() {
+    let (mut volumes, mut listed, mut cleared, mut stays) = (0, 0, 0, 0);
+    for record in from_bytes(&committed()).unwrap() {
+        volumes += u32::from(has_volume(&record.session));
+        for row in model::run(&record.session).unwrap_or_default() {
+            let sliced = |surfaces: &[Surface]| surfaces.iter().any(|s| s.slice > 0);
+            listed += u32::from(sliced(&row.lists.discards));
+            cleared += u32::from(sliced(&row.reply.clears));
+            stays += u32::from(stays_beside(&row.lists));
+        }
+    }
+    let shown = [listed, cleared, stays];
+    assert!(shown.iter().all(|times| *times >= 3), "{shown:?}");
+    assert!(volumes > 60, "{volumes}");
 }
 
 #[test]

@@ -103,7 +103,8 @@ fn each_number_has_an_example_that_ends_with_it() {
     for number in numbers_of_files() {
         let wanted = format!("refusal-{number}");
         let bytes = &all.iter().find(|e| e.name == wanted).expect(&wanted).bytes;
-        let last = match (oracle::run(bytes), model::run(bytes)) {
+        let model = model::run(bytes);
+        let last = match (compare::rust(bytes, &model), model) {
             (Ok(rust), Ok(model)) => {
                 let last = |rows: &[sessions::reply::Judged]| rows.last().unwrap().reply.refusal;
                 assert_eq!(last(&rust), last(&model));

@@ -1,6 +1,6 @@
 //! The C functions as `include/deskcheck.h` declares them.
 
-use interface::Reply;
+use interface::{Index, Reply};
 
 unsafe extern "C" {
     pub fn deskcheck_session_refusal(session: *const u8, session_len: usize) -> u32;
@@ -38,4 +38,13 @@ unsafe extern "C" {
         rows: *mut u8,
         rows_len: usize,
     ) -> u32;
+
+    pub fn deskcheck_surface_index(
+        session: *const u8,
+        session_len: usize,
+        texture: u32,
+        mip: u32,
+        layer: u32,
+        slice: u32,
+    ) -> Index;
 }

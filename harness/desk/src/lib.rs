@@ -18,7 +18,12 @@
 //! let second = desk::check_pass(&file, 1, &mut lists);
 //! assert_eq!((second.number, second.clears), (0, 1));
 //! assert_eq!(desk::submit_buffer(&file, &mut lists), 0);
-//! assert_eq!(lists.status[0], 3);
+//!
+//! // A surface's status byte: 1 filled, plus 2 cleared by the submission.
+//! let surface = desk::Surface { texture: 0, mip: 0, layer: 0, slice: 0 };
+//! let at = desk::surface_index(&file, &surface).unwrap();
+//! assert_eq!(lists.status[at], 3);
+//! assert_eq!(desk::surface_index(&file, &desk::Surface { slice: 1, ..surface }), Err(6));
 //! ```
 //!
 //! Numbers and places are those of `docs/REFUSALS.md`; `include/deskcheck.h` has every layout.
@@ -26,7 +31,7 @@
 mod foreign;
 
 pub use interface::layout;
-pub use interface::{Attachment, Color, Desk, Lent, Lists, Reply};
+pub use interface::{Action, Attachment, Color, Desk, Index, Kind, Lent, Lists, Reply, Surface};
 pub use interface::{ACTIONS_LEN, CLEARS_LEN, DISCARDS_LEN, ROWS_LEN, STATUS_LEN};
 
 use interface::{u32_at, ROW_LEN, ROW_NUMBERS};
@@ -108,6 +113,28 @@ pub fn session(session: &[u8], rows: &mut [u8]) -> u32 {
     }
 }
 
+/// The place of a surface's byte among the status bytes; or the number that refuses the session, 1 to
+/// 4, or 6 for a surface that the session does not have.
+pub fn surface_index(session: &[u8], surface: &Surface) -> Result<usize, u32> {
+    match index(session, surface) {
+        Index { number: 0, index } => Ok(index as usize),
+        Index { number, .. } => Err(number),
+    }
+}
+
+/// The same as the C function tells it.
+fn index(session: &[u8], surface: &Surface) -> Index {
+    let (pointer, length) = (session.as_ptr(), session.len());
+    let Surface {
+        texture,
+        mip,
+        layer,
+        slice,
+    } = *surface;
+    // SAFETY: a pointer and a length of one slice, which lives through the call.
+    unsafe { foreign::deskcheck_surface_index(pointer, length, texture, mip, layer, slice) }
+}
+
 /// Checks one pass on owned lists.
 pub fn check_pass(session: &[u8], number: u32, lists: &mut Lists) -> Reply {
     Library.pass(session, number, lists.lend())
@@ -168,5 +195,9 @@ impl Desk for Library {
 
     fn session(&self, bytes: &[u8], rows: &mut [u8]) -> u32 {
         session(bytes, rows)
+    }
+
+    fn surface_index(&self, session: &[u8], surface: &Surface) -> Index {
+        index(session, surface)
     }
 }

@@ -4,25 +4,26 @@
 //! ```
 //! use discards::{discard, retain, TextureInitRange, TextureSurfaceDiscard};
 //!
-//! let none = TextureSurfaceDiscard { texture: 0, mip: 0, layer: 0 };
+//! let none = TextureSurfaceDiscard { texture: 0, mip: 0, layer: 0, slice: 0 };
 //! let mut list = [none; 64];
-//! let n = discard(&mut list, 0, TextureSurfaceDiscard { texture: 3, mip: 1, layer: 2 });
-//! let n = discard(&mut list, n, TextureSurfaceDiscard { texture: 4, mip: 0, layer: 0 });
-//! let range = TextureInitRange { texture: 3, mip: 1, mips: 1, layer: 0, layers: 4 };
+//! let n = discard(&mut list, 0, TextureSurfaceDiscard { texture: 3, mip: 1, layer: 2, slice: 0 });
+//! let n = discard(&mut list, n, TextureSurfaceDiscard { texture: 4, mip: 0, layer: 0, slice: 5 });
+//! let range = TextureInitRange { texture: 3, mip: 1, mips: 1, layer: 0, layers: 4, slice: 0 };
 //! assert_eq!(retain(&mut list, n, range), 1);
 //! assert_eq!(list[0].texture, 4);
 //! ```
 
-/// A surface whose content is discarded.
+/// A surface whose content is discarded. The slice is 0 where the texture is not 3D.
 #[repr(C)]
 #[derive(Clone, Copy, Debug, PartialEq, Eq)]
 pub struct TextureSurfaceDiscard {
     pub texture: u32,
     pub mip: u32,
     pub layer: u32,
+    pub slice: u32,
 }
 
-/// So many mips and layers of a texture, from the first of each on.
+/// So many mips and layers of a texture, from the first of each on, all of one slice.
 #[repr(C)]
 #[derive(Clone, Copy, Debug, PartialEq, Eq)]
 pub struct TextureInitRange {
@@ -31,6 +32,7 @@ pub struct TextureInitRange {
     pub mips: u32,
     pub layer: u32,
     pub layers: u32,
+    pub slice: u32,
 }
 
 /// The C functions as `include/texture_surface_discards.h` declares them.

@@ -10,6 +10,6 @@ use checks::examples::repository;
 fn a_c_caller_gets_the_same_answers() {
     let program = PathBuf::from(env!("CARGO_TARGET_TMPDIR")).join("c-discards");
     link(&repository("harness/c/discards.c"), "memory_init", &program);
-    let lines = "2 listed, 2 with no room\n1 stays: 4 0 7\n0 and 0 of no list\n";
+    let lines = "2 listed, 2 with no room\n1 stays: 4 0 0 7\n0 and 0 of no list\n";
     assert_eq!(printed(&mut Command::new(&program)), lines);
 }

@@ -5,6 +5,7 @@
 use discards::{discard, retain, TextureInitRange, TextureSurfaceDiscard};
 use sessions::layout::*;
 use sessions::random::Prng;
+use sessions::reader::slices;
 use sessions::rows::{EMPTY_PASS, EMPTY_SLOT, PLAIN_TEXTURE, PLAIN_VIEW};
 use sessions::{Pass, Session, Slot, Texture, View};
 
@@ -14,29 +15,45 @@ const MIPS: u32 = 3;
 const LAYERS: u32 = 4;
 const VIEWS: u32 = 40;
 
+/// The last texture, which is 3D.
+const VOLUME: u32 = TEXTURES - 1;
+
 /// The number of a pass that needs a 65th discard.
 const NO_ROOM: u32 = 49;
 
-/// A view of one mip and one layer or several.
+/// A view of one mip, and of one layer or several; or one that is D3.
 fn view(prng: &mut Prng) -> View {
     let base_layer = prng.below(LAYERS);
-    let layer_count = 1 + prng.below(LAYERS - base_layer);
-    View {
+    let flat = View {
         texture: prng.below(TEXTURES),
         dimension: D2_ARRAY,
         base_mip: prng.below(MIPS),
         base_layer,
-        layer_count,
+        layer_count: 1 + prng.below(LAYERS - base_layer),
         ..PLAIN_VIEW
+    };
+    if flat.texture != VOLUME {
+        return flat;
+    }
+    View {
+        dimension: D3,
+        base_layer: 0,
+        layer_count: 1,
+        ..flat
     }
 }
 
 /// A pass of one view that mostly discards, so that the lists fill.
-fn pass(prng: &mut Prng) -> Pass {
+fn pass(session: &Session, prng: &mut Prng) -> Pass {
+    let number = prng.below(VIEWS);
+    let view = &session.views[number as usize];
+    let depth = slices(&session.textures[view.texture as usize], view.base_mip);
     let mut pass = EMPTY_PASS;
     pass.colours = 1;
     pass.slots[0] = Slot {
-        view: prng.below(VIEWS),
+        view: number,
+        slice_given: u32::from(view.dimension == D3),
+        slice: prng.below(depth),
         load: if prng.chance(10) { LOAD } else { CLEAR },
         store: if prng.chance(5) { STORE } else { DISCARD },
         ..EMPTY_SLOT
@@ -50,14 +67,16 @@ fn session(prng: &mut Prng) -> Session {
         mips: MIPS,
         ..PLAIN_TEXTURE
     };
-    Session {
+    let mut session = Session {
         max_views: LAYERS,
         flags: MULTIVIEW,
         textures: vec![texture; TEXTURES as usize],
         views: (0..VIEWS).map(|_| view(prng)).collect(),
-        passes: (0..MAX_PASSES).map(|_| pass(prng)).collect(),
         ..Session::new()
-    }
+    };
+    session.textures[VOLUME as usize].dimension = 3;
+    session.passes = (0..MAX_PASSES).map(|_| pass(&session, prng)).collect();
+    session
 }
 
 /// The slice's part in a pass: what is loaded or kept is listed no more, then a discard is listed.
@@ -68,11 +87,13 @@ fn step(records: &mut [TextureSurfaceDiscard], n: usize, view: &View, slot: &Slo
         mips: view.mip_count,
         layer: view.base_layer,
         layers: view.layer_count,
+        slice: slot.slice,
     };
     let first = TextureSurfaceDiscard {
         texture: view.texture,
         mip: view.base_mip,
         layer: view.base_layer,
+        slice: slot.slice,
     };
     let kept = if slot.load == LOAD || slot.store == STORE {
         retain(records, n, range)
@@ -92,6 +113,7 @@ fn flat(lists: &desk::Lists) -> Vec<TextureSurfaceDiscard> {
         texture: s.texture,
         mip: s.mip,
         layer: s.layer,
+        slice: s.slice,
     };
     lists.discards().into_iter().map(record).collect()
 }
@@ -102,6 +124,7 @@ fn slices_and_flat_lists_do_not_differ() {
         texture: 0,
         mip: 0,
         layer: 0,
+        slice: 0,
     };
     let mut prng = Prng::new(10_011);
     let (mut listed, mut removed, mut full) = (0, 0, 0);

@@ -1,4 +1,4 @@
-//! The proved functions against a plain vector of triples with `Vec::retain`, on random lists.
+//! The proved functions against a plain vector of quadruples with `Vec::retain`, on random lists.
 
 use discards::{discard, retain, TextureInitRange, TextureSurfaceDiscard};
 use sessions::random::Prng;
@@ -9,14 +9,14 @@ const MOST: u32 = 24;
 const LISTS: u32 = 100_000;
 
 /// The flat form of a record.
-type Triple = [u32; 3];
+type Quadruple = [u32; 4];
 
-fn triple(s: &TextureSurfaceDiscard) -> Triple {
-    [s.texture, s.mip, s.layer]
+fn quadruple(s: &TextureSurfaceDiscard) -> Quadruple {
+    [s.texture, s.mip, s.layer, s.slice]
 }
 
-fn triples(list: &[TextureSurfaceDiscard]) -> Vec<Triple> {
-    list.iter().map(triple).collect()
+fn quadruples(list: &[TextureSurfaceDiscard]) -> Vec<Quadruple> {
+    list.iter().map(quadruple).collect()
 }
 
 /// Whether x is one of `count` numbers from `first` on.
@@ -24,10 +24,11 @@ fn among(first: u32, count: u32, x: u32) -> bool {
     (u64::from(first)..u64::from(first) + u64::from(count)).contains(&u64::from(x))
 }
 
-fn hits(range: &TextureInitRange, s: &Triple) -> bool {
+fn hits(range: &TextureInitRange, s: &Quadruple) -> bool {
     s[0] == range.texture
         && among(range.mip, range.mips, s[1])
         && among(range.layer, range.layers, s[2])
+        && s[3] == range.slice
 }
 
 /// A number of few, so that lists have duplicates; rarely one at the end of all.
@@ -44,6 +45,7 @@ fn surface(prng: &mut Prng) -> TextureSurfaceDiscard {
         texture: number(prng, 2),
         mip: number(prng, 3),
         layer: number(prng, 3),
+        slice: number(prng, 2),
     }
 }
 
@@ -54,6 +56,7 @@ fn range(prng: &mut Prng) -> TextureInitRange {
         mips: number(prng, 4),
         layer: number(prng, 3),
         layers: number(prng, 4),
+        slice: number(prng, 2),
     }
 }
 
@@ -85,11 +88,11 @@ impl Trial {
     fn call(
         &mut self,
         made: impl FnOnce(&mut [TextureSurfaceDiscard]) -> usize,
-    ) -> (Vec<Triple>, usize, Vec<Triple>) {
+    ) -> (Vec<Quadruple>, usize, Vec<Quadruple>) {
         let room = self.room();
-        let before = triples(&self.records);
+        let before = quadruples(&self.records);
         let r = made(&mut self.records[GUARD..GUARD + room]);
-        (before, r, triples(&self.records))
+        (before, r, quadruples(&self.records))
     }
 
     /// One append: the new count.
@@ -98,7 +101,7 @@ impl Trial {
         let s = surface(&mut self.prng);
         let (mut flat, r, after) = self.call(|list| discard(list, n, s));
         if n < room {
-            flat[GUARD + n] = triple(&s);
+            flat[GUARD + n] = quadruple(&s);
             self.seen.appended += 1;
         } else {
             self.seen.full += 1;
@@ -178,20 +181,25 @@ fn random_lists_do_not_differ() {
     }
 }
 
-#[test]
-fn order_and_duplicates_stay() {
-    let s = |texture, mip, layer| TextureSurfaceDiscard {
+/// A surface by its four numbers.
+fn s(texture: u32, mip: u32, layer: u32, slice: u32) -> TextureSurfaceDiscard {
+    TextureSurfaceDiscard {
         texture,
         mip,
         layer,
-    };
+        slice,
+    }
+}
+
+#[test]
+fn order_and_duplicates_stay() {
     let mut list = [
-        s(1, 0, 0),
-        s(2, 0, 0),
-        s(1, 0, 0),
-        s(1, 0, 5),
-        s(2, 0, 0),
-        s(2, 0, 1),
+        s(1, 0, 0, 0),
+        s(2, 0, 0, 0),
+        s(1, 0, 0, 0),
+        s(1, 0, 5, 0),
+        s(2, 0, 0, 0),
+        s(2, 0, 1, 0),
     ];
     let range = TextureInitRange {
         texture: 1,
@@ -199,30 +207,42 @@ fn order_and_duplicates_stay() {
         mips: 1,
         layer: 0,
         layers: 5,
+        slice: 0,
     };
-    let kept = [s(2, 0, 0), s(1, 0, 5), s(2, 0, 0), s(2, 0, 1)];
+    let kept = [s(2, 0, 0, 0), s(1, 0, 5, 0), s(2, 0, 0, 0), s(2, 0, 1, 0)];
     assert_eq!(retain(&mut list, 6, range), 4);
     assert_eq!(list[..4], kept);
-    assert_eq!(discard(&mut list, 4, s(2, 0, 0)), 5);
+    assert_eq!(discard(&mut list, 4, s(2, 0, 0, 0)), 5);
     assert_eq!(list[..4], kept);
-    assert_eq!(list[4], s(2, 0, 0));
+    assert_eq!(list[4], s(2, 0, 0, 0));
+}
+
+#[test]
+fn a_range_has_its_slice_alone() {
+    let mut list = [s(0, 0, 0, 0), s(0, 0, 0, 1), s(0, 1, 0, 1), s(0, 1, 0, 2)];
+    let range = TextureInitRange {
+        texture: 0,
+        mip: 0,
+        mips: 2,
+        layer: 0,
+        layers: 1,
+        slice: 1,
+    };
+    assert_eq!(retain(&mut list, 4, range), 2);
+    assert_eq!(list[..2], [s(0, 0, 0, 0), s(0, 1, 0, 2)]);
 }
 
 #[test]
 fn an_empty_slice_has_no_room() {
-    let s = TextureSurfaceDiscard {
-        texture: 0,
-        mip: 0,
-        layer: 0,
-    };
     let all = TextureInitRange {
         texture: 0,
         mip: 0,
         mips: u32::MAX,
         layer: 0,
         layers: u32::MAX,
+        slice: 0,
     };
-    assert_eq!(discard(&mut [], 0, s), 0);
+    assert_eq!(discard(&mut [], 0, s(0, 0, 0, 0)), 0);
     assert_eq!(retain(&mut [], 0, all), 0);
     assert_eq!(retain(&mut [], 1, all), 1);
 }

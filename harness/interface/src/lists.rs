@@ -1,9 +1,9 @@
 //! What a caller lends: three lists and the status bytes, as byte buffers. A list is a count and
 //! then its records, all little-endian u32.
 
-use sessions::layout::{ACTIONS_LEN, ACTION_FIELDS, ACTION_KIND_AT, ACTION_LEN};
+use sessions::layout::{ACTIONS_LEN, ACTION_FIELDS, ACTION_KIND_AT, ACTION_LEN, ACTION_SLICE_AT};
 use sessions::layout::{CLEARS_LEN, COUNT_LEN, DISCARDS_LEN, FIELD_LEN, STATUS_LEN};
-use sessions::layout::{SURFACE_FIELDS, SURFACE_LEN};
+use sessions::layout::{SURFACE_FIELDS, SURFACE_LEN, SURFACE_SLICE_AT};
 use sessions::reply::{Action, Kind, Surface};
 
 /// The four lent buffers of one call. Shorter ones are refused as 6, further bytes are not touched.
@@ -73,7 +73,7 @@ impl Lists {
     }
 
     /// How many discards, actions and clears are listed.
-    pub fn counts(&self) -> [u32; SURFACE_FIELDS] {
+    pub fn counts(&self) -> [u32; 3] {
         [&self.discards, &self.actions, &self.clears].map(|list| u32_at(list, 0))
     }
 }
@@ -97,6 +97,7 @@ fn surface_at(record: &[u8]) -> Surface {
         texture: u32_at(record, 0),
         mip: u32_at(record, FIELD_LEN),
         layer: u32_at(record, 2 * FIELD_LEN),
+        slice: u32_at(record, SURFACE_SLICE_AT),
     }
 }
 
@@ -115,12 +116,13 @@ fn action_at(record: &[u8]) -> Action {
         texture: u32_at(record, 0),
         mips: range(FIELD_LEN),
         layers: range(3 * FIELD_LEN),
+        slice: u32_at(record, ACTION_SLICE_AT),
     }
 }
 
 /// A surface as the fields of its record.
 pub fn surface_fields(s: &Surface) -> [u32; SURFACE_FIELDS] {
-    [s.texture, s.mip, s.layer]
+    [s.texture, s.mip, s.layer, s.slice]
 }
 
 /// An action as the fields of its record.
@@ -137,6 +139,7 @@ pub fn action_fields(a: &Action) -> [u32; ACTION_FIELDS] {
         layers.0,
         layers.1 - layers.0,
         kind,
+        a.slice,
     ]
 }
 

@@ -1,6 +1,7 @@
-//! The reply to one pass, as the C interface lays it out.
+//! The reply to one pass, and the index of a surface, as the C interface lays them out.
 
-use sessions::layout::{ATTACHMENT_LEN, ATTACHMENT_WORDS, COLOR_LEN, MOST_ATTACHMENTS, REPLY_LEN};
+use sessions::layout::{ATTACHMENT_LEN, ATTACHMENT_WORDS, COLOR_LEN, INDEX_LEN};
+use sessions::layout::{MOST_ATTACHMENTS, REPLY_LEN};
 
 /// A colour clear value.
 #[repr(C)]
@@ -58,7 +59,18 @@ pub struct Reply {
     pub attachments: [Attachment; MOST_ATTACHMENTS],
 }
 
-// The sizes that a C compiler gives the three records.
+/// Where a surface has its byte among the status bytes.
+#[repr(C)]
+#[derive(Clone, Copy, Debug, Default, PartialEq, Eq)]
+pub struct Index {
+    /// 0, or the session's refusal, 1 to 4, or 6 for a surface that the session does not have.
+    pub number: u32,
+    /// The place of the byte; 0 where the number is not.
+    pub index: u32,
+}
+
+// The sizes that a C compiler gives the four records.
+const _: () = assert!(size_of::<Index>() == INDEX_LEN);
 const _: () = assert!(size_of::<Color>() == COLOR_LEN);
 const _: () = assert!(size_of::<Attachment>() == ATTACHMENT_LEN);
 const _: () = assert!(size_of::<Reply>() == REPLY_LEN);

@@ -55,14 +55,18 @@ impl Lent {
 /// Whether a record names a surface of the session.
 pub fn names(session: &Session, s: &Surface) -> bool {
     let texture = session.textures.get(s.texture as usize);
-    texture.is_some_and(|t| s.mip < t.mips && s.layer < t.layers)
+    texture.is_some_and(|t| s.mip < t.mips && s.layer < t.layers && s.slice < t.slices(s.mip))
 }
 
-/// Whether a record's ranges are not empty and inside its texture.
+/// Whether a record's ranges are not empty and inside its texture, and each of its mips has its slice.
 pub fn spans(session: &Session, a: &Action) -> bool {
     let within = |range: (u32, u32), end: u32| range.0 < range.1 && range.1 <= end;
-    let texture = session.textures.get(a.texture as usize);
-    texture.is_some_and(|t| within(a.mips, t.mips) && within(a.layers, t.layers))
+    let Some(t) = session.textures.get(a.texture as usize) else {
+        return false;
+    };
+    within(a.mips, t.mips)
+        && within(a.layers, t.layers)
+        && (a.mips.0..a.mips.1).all(|mip| a.slice < t.slices(mip))
 }
 
 /// The session, if neither the lent buffers nor the bytes refuse the call.
@@ -116,6 +120,14 @@ pub fn submit(bytes: &[u8], lent: &mut Lent) -> u32 {
 fn submit_lent(session: &Session, lent: &mut Lent) {
     submission::submit(session, &lent.lists, &mut lent.status);
     lent.lists = Lists::default();
+}
+
+/// The place of a surface's byte among the status bytes, or a number: the session's refusal, or 6
+/// for a surface that the session does not have.
+pub fn surface_index(bytes: &[u8], surface: &Surface) -> Result<u32, u32> {
+    let session = read::session(bytes)?;
+    let mut all = submission::surfaces(&session).into_iter();
+    all.position(|s| s == *surface).map(|at| at as u32).ok_or(6)
 }
 
 /// The whole session from fresh lists: each pass judged, each buffer submitted at its end.

@@ -11,4 +11,4 @@ pub mod submission;
 pub mod verdict;
 pub mod views;
 
-pub use calls::{check_pass, deskcheck, run, submit, Lent};
+pub use calls::{check_pass, deskcheck, run, submit, surface_index, Lent};

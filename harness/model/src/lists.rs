@@ -23,13 +23,14 @@ pub fn plan(load: Load, store: Store) -> Plan {
     }
 }
 
-/// The action of a view's range.
-pub fn action(view: &View, kind: Kind) -> Action {
+/// The action of a view's range, at the slice that is drawn to.
+fn action(view: &View, slice: u32, kind: Kind) -> Action {
     Action {
         kind,
         texture: view.texture,
         mips: view.mips,
         layers: view.layers,
+        slice,
     }
 }
 
@@ -51,16 +52,18 @@ impl Recording {
         }
     }
 
-    /// Records an attachment: first its action, then its discard.
-    pub fn attach(&mut self, view: &View, plan: Plan) {
+    /// Records an attachment at a slice, 0 of a view that is not D3: first its action, then its
+    /// discard.
+    pub fn attach(&mut self, view: &View, slice: u32, plan: Plan) {
         if let Some(kind) = plan.action {
-            self.register(action(view, kind));
+            self.register(action(view, slice, kind));
         }
         if plan.discards {
             self.lists.discards.push(Surface {
                 texture: view.texture,
                 mip: view.mips.0,
                 layer: view.layers.0,
+                slice,
             });
             let length = self.lists.discards.len();
             self.most_discards = self.most_discards.max(length);
@@ -82,6 +85,7 @@ impl Recording {
                     texture: discard.texture,
                     mips: (discard.mip, discard.mip + 1),
                     layers: (discard.layer, discard.layer + 1),
+                    slice: discard.slice,
                 });
             }
         }
@@ -94,4 +98,5 @@ pub fn covers(action: &Action, surface: &Surface) -> bool {
     action.texture == surface.texture
         && within(surface.mip, action.mips)
         && within(surface.layer, action.layers)
+        && action.slice == surface.slice
 }

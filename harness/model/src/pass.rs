@@ -152,16 +152,16 @@ fn divergent(at: &Checked) -> u32 {
 fn record(pass: &Pass, depth_stencil: Option<&Checked>, found: &Lists) -> Recording {
     let mut recording = Recording::new(found);
     if let Some(at) = depth_stencil {
-        recording.attach(&at.view, depth_stencil_plan(at));
+        recording.attach(&at.view, 0, depth_stencil_plan(at));
     }
     for (_, at) in filled(pass) {
-        recording.attach(&at.view, plan(at.load, at.store));
+        recording.attach(&at.view, at.slice.unwrap_or(0), plan(at.load, at.store));
         if let Some(target) = &at.resolve {
             let filled_by_the_pass = Plan {
                 action: Some(Kind::Implicit),
                 discards: false,
             };
-            recording.attach(target, filled_by_the_pass);
+            recording.attach(target, 0, filled_by_the_pass);
         }
     }
     recording

@@ -182,15 +182,28 @@ impl Session {
 
     /// Surfaces in all.
     pub fn surfaces(&self) -> usize {
-        self.textures
-            .iter()
-            .map(|t| (t.mips * t.layers) as usize)
-            .sum()
+        self.textures.iter().map(Texture::surfaces).sum()
     }
 
     /// A buffer ends with a flag of 1, and with the last pass.
     pub fn ends_buffer(&self, i: usize) -> bool {
         self.passes[i].ends == 1 || i == self.passes.len() - 1
+    }
+}
+
+impl Texture {
+    /// Slices of a mip: a 3D texture has the mip's depth, another texture one.
+    pub fn slices(&self, mip: u32) -> u32 {
+        match self.dimension {
+            3 => mip_size(self.depth, mip),
+            _ => 1,
+        }
+    }
+
+    /// Surfaces over all mips: layers, or slices.
+    fn surfaces(&self) -> usize {
+        let of_mip = |mip: u32| (self.layers * self.slices(mip)) as usize;
+        (0..self.mips).map(of_mip).sum()
     }
 }
 

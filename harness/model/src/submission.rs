@@ -10,17 +10,18 @@ const FILLED: u8 = 1;
 /// Status bit: the last submission cleared the surface.
 const CLEARED: u8 = 2;
 
-/// Every surface by texture, mip and layer: the order of the status bytes.
+/// Every surface by texture, mip and slice or layer: the order of the status bytes.
 pub fn surfaces(session: &Session) -> Vec<Surface> {
     let mut all = Vec::new();
-    for (texture, t) in session.textures.iter().enumerate() {
+    for (texture, t) in (0..).zip(&session.textures) {
         for mip in 0..t.mips {
-            for layer in 0..t.layers {
-                all.push(Surface {
-                    texture: texture as u32,
+            for slice in 0..t.slices(mip) {
+                all.extend((0..t.layers).map(|layer| Surface {
+                    texture,
                     mip,
                     layer,
-                });
+                    slice,
+                }));
             }
         }
     }

@@ -3,6 +3,7 @@
 use std::collections::HashSet;
 
 use sessions::layout::*;
+use sessions::reply::Surface;
 
 use crate::channels::is_depth_stencil;
 use crate::read::{Colour, Session, View};
@@ -19,7 +20,7 @@ pub struct Seen<'a> {
     pub extent: Option<(u32, u32, u32)>,
     /// Place of the depth-stencil or colour view accepted last.
     last: u32,
-    taken: HashSet<(u32, u32, u32)>,
+    taken: HashSet<Surface>,
 }
 
 impl<'a> Seen<'a> {
@@ -108,12 +109,13 @@ impl<'a> Seen<'a> {
 
     /// 41: D2 and D2Array take their layers, D3 its slice, at the base mip.
     fn overlap(&mut self, view: &View, slice: Option<u32>, place: u32) -> Check {
-        let covers = match slice {
-            Some(slice) => slice..slice + 1,
-            None => view.layers.0..view.layers.1,
-        };
-        for at in covers {
-            let free = self.taken.insert((view.texture, view.mips.0, at));
+        for layer in view.layers.0..view.layers.1 {
+            let free = self.taken.insert(Surface {
+                texture: view.texture,
+                mip: view.mips.0,
+                layer,
+                slice: slice.unwrap_or(0),
+            });
             refuse_if(!free, 41, place)?;
         }
         Ok(())

@@ -1,7 +1,7 @@
 //! Document 01's calls on lent lists: number 6, refusals that leave everything, the life of a
 //! status byte, and what is printed.
 
-use model::{check_pass, deskcheck, run, submit, Lent};
+use model::{check_pass, deskcheck, run, submit, surface_index, Lent};
 use sessions::layout::{ACTIONS, CLEARS, DISCARDS, SLOTS, STATUS_LEN};
 use sessions::reply::{Action, Kind, Surface};
 use sessions::text;
@@ -10,6 +10,16 @@ const A: Surface = Surface {
     texture: 0,
     mip: 0,
     layer: 0,
+    slice: 0,
+};
+
+/// A needing action of the first mip and layer of texture 0.
+const LOAD_A: Action = Action {
+    kind: Kind::Needing,
+    texture: 0,
+    mips: (0, 1),
+    layers: (0, 1),
+    slice: 0,
 };
 
 /// One texture, one view; Clear with Discard, then Load with Store.
@@ -65,28 +75,26 @@ fn a_short_buffer_is_6_before_all_else() {
 
 #[test]
 fn counts_records_and_status_bytes_are_6_after_4() {
-    let other = |texture, mip, layer| Surface {
-        texture,
-        mip,
-        layer,
-    };
     let action = |texture, mips, layers| Action {
-        kind: Kind::Needing,
         texture,
         mips,
         layers,
+        ..LOAD_A
     };
     let wrong = [
         lent(|l| l.lists.discards = vec![A; DISCARDS + 1]),
-        lent(|l| l.lists.actions = vec![action(0, (0, 1), (0, 1)); ACTIONS + 1]),
+        lent(|l| l.lists.actions = vec![LOAD_A; ACTIONS + 1]),
         lent(|l| l.clears = vec![A; CLEARS + 1]),
-        lent(|l| l.lists.discards.push(other(1, 0, 0))),
-        lent(|l| l.lists.discards.push(other(0, 1, 0))),
-        lent(|l| l.clears.push(other(0, 0, 1))),
+        lent(|l| l.lists.discards.push(Surface { texture: 1, ..A })),
+        lent(|l| l.lists.discards.push(Surface { mip: 1, ..A })),
+        lent(|l| l.lists.discards.push(Surface { slice: 1, ..A })),
+        lent(|l| l.clears.push(Surface { layer: 1, ..A })),
+        lent(|l| l.clears.push(Surface { slice: 1, ..A })),
         lent(|l| l.lists.actions.push(action(1, (0, 1), (0, 1)))),
         lent(|l| l.lists.actions.push(action(0, (0, 2), (0, 1)))),
         lent(|l| l.lists.actions.push(action(0, (0, 1), (0, 2)))),
         lent(|l| l.lists.actions.push(action(0, (0, 1), (0, 0)))),
+        lent(|l| l.lists.actions.push(Action { slice: 1, ..LOAD_A })),
         lent(|l| l.status[0] = 4),
     ];
     let unreadable = text::to_bytes("texture\nview texture=1").unwrap();
@@ -122,9 +130,7 @@ fn refusal_49_comes_before_50() {
         let held = Surface { layer: 1, ..A };
         let action = Action {
             kind: Kind::Implicit,
-            texture: 0,
-            mips: (0, 1),
-            layers: (0, 1),
+            ..LOAD_A
         };
         l.lists.discards = vec![held; DISCARDS];
         l.lists.actions = vec![action; ACTIONS];
@@ -144,15 +150,144 @@ fn a_load_with_discard_keeps_the_list_at_64() {
     assert_eq!(full.clears.len(), DISCARDS);
 }
 
+/// A volume of depth 5 and three mips, with 5, 2 and 1 slices; then a texture of two layers.
+const VOLUME: &str = "texture dimension=3 layers=5 mips=3\ntexture layers=2\n\
+                      view dimension=D3\nview dimension=D3 mip=1\nview texture=1 layer=1\n";
+
+/// Its bytes with these passes.
+fn volume(passes: &str) -> Vec<u8> {
+    text::to_bytes(&format!("{VOLUME}{passes}")).unwrap()
+}
+
 #[test]
-fn at_most_71_clears_in_one_pass() {
+fn a_lent_slice_is_below_the_depth_of_each_of_its_mips() {
+    let bytes = volume("pass\n  colour view=0 slice=0 load=clear");
+    let surface = |mip, slice| Surface { mip, slice, ..A };
+    let discard = |mip, slice| {
+        both(
+            &bytes,
+            &lent(|l| l.lists.discards = vec![surface(mip, slice)]),
+        )
+    };
+    let clear = |mip, slice| both(&bytes, &lent(|l| l.clears = vec![surface(mip, slice)]));
+    for (mip, depth) in [(0, 5), (1, 2), (2, 1)] {
+        assert_eq!([discard(mip, depth - 1), clear(mip, depth - 1)], [0, 0]);
+        assert_eq!([discard(mip, depth), clear(mip, depth)], [6, 6]);
+    }
+    let action = |mips, slice| {
+        let held = Action {
+            mips,
+            slice,
+            ..LOAD_A
+        };
+        both(&bytes, &lent(|l| l.lists.actions = vec![held]))
+    };
+    assert_eq!([action((0, 1), 4), action((0, 1), 5)], [0, 6]);
+    assert_eq!([action((0, 2), 1), action((0, 2), 2)], [0, 6]);
+    assert_eq!([action((0, 3), 0), action((0, 3), 1)], [0, 6]);
+    assert_eq!([action((2, 3), 0), action((2, 3), 1)], [0, 6]);
+}
+
+#[test]
+fn at_most_64_clears_in_one_pass() {
     let slots: String = (0..8)
         .map(|k| format!("  colour view=0 slice={k} load=load store=discard\n"))
         .collect();
     let text = format!("texture dimension=3 layers=8\nview dimension=D3\npass\n{slots}");
-    let mut full = lent(|l| l.lists.discards = vec![A; DISCARDS]);
+    let held = (0..DISCARDS as u32).map(|k| Surface { slice: k % 8, ..A });
+    let held: Vec<Surface> = held.collect();
+    let mut full = lent(|l| l.lists.discards = held.clone());
     let reply = check_pass(&text::to_bytes(&text).unwrap(), 0, &mut full);
-    assert_eq!(reply.clears.len(), DISCARDS + SLOTS - 1);
+    assert_eq!(reply.clears.len(), DISCARDS);
+    assert_eq!(full.lists.discards.len(), SLOTS);
+}
+
+#[test]
+fn a_slice_is_discarded_and_loaded_by_itself() {
+    let bytes = volume(
+        "pass\n  colour view=0 slice=0 load=clear store=discard\n\
+         pass\n  colour view=0 slice=1 load=load store=store\n\
+         pass\n  colour view=0 slice=0 load=load store=store\n",
+    );
+    let rows = run(&bytes).unwrap();
+    assert_eq!(rows[0].lists.discards, [A]);
+    assert_eq!(
+        (rows[1].reply.clears.len(), rows[1].lists.discards.len()),
+        (0, 1)
+    );
+    assert_eq!(
+        (&rows[2].reply.clears[..], rows[2].lists.discards.len()),
+        (&[A][..], 0)
+    );
+    let slices: Vec<u32> = rows[2].lists.actions.iter().map(|a| a.slice).collect();
+    assert_eq!(slices, [1, 0, 0], "each load's, then the clear's own");
+    let status = rows[2].submitted.as_ref().unwrap();
+    assert_eq!(status[..], [3, 3, 0, 0, 0, 0, 0, 0, 0, 0]);
+}
+
+#[test]
+fn a_slice_of_another_mip_is_another_surface() {
+    let bytes = volume(
+        "pass ends=1\n  colour view=0 slice=0 load=clear store=store\n\
+         pass\n  colour view=0 slice=0 load=clear store=discard\n\
+         pass\n  colour view=1 slice=0 load=load store=store\n",
+    );
+    let rows = run(&bytes).unwrap();
+    assert_eq!(rows[0].submitted.as_ref().unwrap()[..6], [1, 0, 0, 0, 0, 0]);
+    assert_eq!(
+        (rows[2].reply.clears.len(), rows[2].lists.discards.len()),
+        (0, 1)
+    );
+    assert_eq!(rows[2].submitted.as_ref().unwrap()[..6], [0, 0, 0, 0, 0, 3]);
+}
+
+#[test]
+fn a_lent_action_of_several_mips_fills_its_slice_in_each() {
+    let held = Action {
+        mips: (0, 2),
+        slice: 1,
+        ..LOAD_A
+    };
+    let discard = Surface {
+        mip: 1,
+        slice: 1,
+        ..A
+    };
+    let mut lent = lent(|l| {
+        l.lists.actions = vec![held];
+        l.lists.discards = vec![discard];
+    });
+    assert_eq!(submit(&volume(""), &mut lent), 0);
+    assert_eq!(lent.status[..8], [0, 3, 0, 0, 0, 0, 2, 0]);
+}
+
+#[test]
+fn the_index_of_a_surface_is_the_place_of_its_byte() {
+    let bytes = volume("");
+    let index = |texture, mip, layer, slice| {
+        let surface = Surface {
+            texture,
+            mip,
+            layer,
+            slice,
+        };
+        surface_index(&bytes, &surface)
+    };
+    assert_eq!([index(0, 0, 0, 0), index(0, 0, 0, 4)], [Ok(0), Ok(4)]);
+    assert_eq!([index(0, 1, 0, 0), index(0, 1, 0, 1)], [Ok(5), Ok(6)]);
+    assert_eq!([index(0, 2, 0, 0), index(1, 0, 1, 0)], [Ok(7), Ok(9)]);
+    let outside = [
+        (0, 0, 0, 5),
+        (0, 1, 0, 2),
+        (0, 3, 0, 0),
+        (0, 0, 1, 0),
+        (1, 0, 0, 1),
+        (2, 0, 0, 0),
+    ];
+    for (texture, mip, layer, slice) in outside {
+        assert_eq!(index(texture, mip, layer, slice), Err(6));
+    }
+    assert_eq!(surface_index(&[], &A), Err(1));
 }
 
 #[test]

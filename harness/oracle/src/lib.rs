@@ -36,4 +36,4 @@ mod command {
 // Paths that the cut text names from the crate's root.
 pub(crate) use stand_ins::{id, resource, track, FastHashSet};
 
-pub use driver::{run, Run};
+pub use driver::{run, run_told, Run};

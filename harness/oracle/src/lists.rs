@@ -2,16 +2,17 @@
 
 use sessions::reply::{Action, Kind, Lists, Surface};
 
-/// A discard as a record.
+/// A discard as a record. The Rust has no slices: of a 3D texture it stands for the whole mip.
 pub(crate) fn surface(discard: &TextureSurfaceDiscard) -> Surface {
     Surface {
         texture: discard.texture.tracking_data.tracker_index().0,
         mip: discard.mip_level,
         layer: discard.layer,
+        slice: 0,
     }
 }
 
-/// An action as a record.
+/// An action as a record, likewise.
 fn action(entry: &TextureInitTrackerAction) -> Action {
     let range = &entry.range;
     Action {
@@ -22,6 +23,7 @@ fn action(entry: &TextureInitTrackerAction) -> Action {
         texture: entry.texture.tracking_data.tracker_index().0,
         mips: (range.mip_range.start, range.mip_range.end),
         layers: (range.layer_range.start, range.layer_range.end),
+        slice: 0,
     }
 }
 

@@ -53,6 +53,7 @@ impl DynCommandEncoder for Recorder {
             texture,
             mip,
             layer,
+            slice: 0,
         }));
     }
 }

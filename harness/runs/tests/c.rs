@@ -39,7 +39,7 @@ fn the_example_prints_document_01s_lines() {
     assert!(!missing.status.success());
 }
 
-/// NULL with length 0, two threads at once, and the stack; the program ends with an error where the
+/// NULL with length 0, indices of surfaces, two threads at once, and the stack; the program ends with an error where the
 /// header says otherwise.
 #[test]
 fn calls_are_as_the_header_says() {
@@ -47,7 +47,12 @@ fn calls_are_as_the_header_says() {
     calls.arg(repository("examples/first.session"));
     calls.args(files("session"));
     let told = printed(&mut calls);
-    let parts = ["NULL of length 0", "two threads", "stack"];
+    let parts = [
+        "NULL of length 0",
+        "index of a surface",
+        "two threads",
+        "stack",
+    ];
     for part in parts {
         assert!(told.contains(&format!("{part}: as said\n")), "{told}");
     }
@@ -113,6 +118,7 @@ fn the_headers_macros_agree_with_the_layout() {
         ("color", COLOR_LEN),
         ("attachment", ATTACHMENT_LEN),
         ("reply", REPLY_LEN),
+        ("index", INDEX_LEN),
     ];
     let mut text = String::from("#include \"deskcheck.h\"\n");
     for (name, size) in sizes {
@@ -131,7 +137,13 @@ fn the_headers_macros_agree_with_the_layout() {
 #[test]
 fn the_library_needs_two_functions_and_has_no_variables() {
     assert_eq!(symbols(LIBRARY, "U"), ["memcpy", "memset"]);
-    let functions = ["pass", "session", "session_refusal", "submit"];
+    let functions = [
+        "pass",
+        "session",
+        "session_refusal",
+        "submit",
+        "surface_index",
+    ];
     assert_eq!(
         symbols(LIBRARY, "T"),
         functions.map(|f| format!("deskcheck_{f}"))

@@ -3,7 +3,7 @@
 use checks::examples::{numbers, of_number, sessions};
 use checks::whole;
 use desk::layout::DISCARDS;
-use desk::{check, check_pass, submit_buffer, Library, Lists};
+use desk::{check, check_pass, submit_buffer, surface_index, Library, Lists, Surface};
 use sessions::text;
 
 #[test]
@@ -67,12 +67,44 @@ fn cleared_lists_are_as_good_as_fresh_ones() {
 }
 
 #[test]
-fn a_3d_texture_has_one_status_byte_a_mip() {
-    let text = "texture dimension=3 layers=4\ntexture\nview texture=1\n\
-                pass\n  colour view=0 load=load store=store";
+fn a_3d_texture_has_a_status_byte_a_slice() {
+    let text = "texture dimension=3 layers=5 mips=3\ntexture\n\
+                view dimension=D3\nview dimension=D3 mip=1\nview texture=1\n\
+                pass ends=1\n  colour view=0 slice=4 load=load store=store\n  colour view=2 load=clear\n\
+                pass\n  colour view=1 slice=1 load=clear store=store\n\
+                pass\n  colour view=0 slice=4 load=clear store=discard";
     let bytes = text::to_bytes(text).unwrap();
     let mut lists = Lists::fresh();
     assert_eq!(check_pass(&bytes, 0, &mut lists).number, 0);
     assert_eq!(submit_buffer(&bytes, &mut lists), 0);
-    assert_eq!(lists.status[..3], [0, 3, 0]);
+    assert_eq!(lists.status[..10], [0, 0, 0, 0, 3, 0, 0, 0, 1, 0]);
+    assert_eq!(check_pass(&bytes, 1, &mut lists).number, 0);
+    assert_eq!(check_pass(&bytes, 2, &mut lists).number, 0);
+    let discarded = lists.discards()[0];
+    assert_eq!((discarded.layer, discarded.slice), (0, 4));
+    assert_eq!(surface_index(&bytes, &discarded), Ok(4));
+    assert_eq!(submit_buffer(&bytes, &mut lists), 0);
+    assert_eq!(lists.status[..10], [0, 0, 0, 0, 0, 0, 1, 0, 1, 0]);
+}
+
+#[test]
+fn the_index_of_a_surface() {
+    let bytes =
+        text::to_bytes("texture layers=2 mips=2\ntexture dimension=3 layers=5 mips=3").unwrap();
+    let index = |texture, mip, layer, slice| {
+        let surface = Surface {
+            texture,
+            mip,
+            layer,
+            slice,
+        };
+        surface_index(&bytes, &surface)
+    };
+    assert_eq!([index(0, 0, 1, 0), index(0, 1, 1, 0)], [Ok(1), Ok(3)]);
+    assert_eq!([index(1, 0, 0, 0), index(1, 0, 0, 4)], [Ok(4), Ok(8)]);
+    assert_eq!([index(1, 1, 0, 1), index(1, 2, 0, 0)], [Ok(10), Ok(11)]);
+    assert_eq!([index(0, 0, 0, 1), index(1, 1, 0, 2)], [Err(6), Err(6)]);
+    assert_eq!([index(1, 0, 1, 0), index(2, 0, 0, 0)], [Err(6), Err(6)]);
+    let refused = of_number(4).unwrap();
+    assert_eq!(surface_index(&refused, &Surface::default()), Err(4));
 }

@@ -22,6 +22,7 @@ fn random_passes_do_not_differ() {
     assert_eq!(counts.passes, counts.compared + counts.withheld);
     assert!(counts.accepted > 6_000, "{tally}");
     assert!(tally.variants.by_number[&6] > 10_000, "{tally}");
+    assert!(tally.surfaces.by_number[&0] > 10_000, "{tally}");
     let known = examples::numbers();
     for number in counts.by_number.keys().filter(|n| **n != 0) {
         assert!(known.contains(number), "number {number}");

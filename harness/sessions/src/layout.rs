@@ -106,16 +106,19 @@ pub const STATUS_LEN: usize = MAX_SURFACES as usize;
 
 /// Bytes of a list's count; its records follow.
 pub const COUNT_LEN: usize = FIELD_LEN;
-/// Fields of a surface record: texture, mip, layer.
-pub const SURFACE_FIELDS: usize = 3;
-/// Fields of an action record: texture, mip, mips, layer, layers, kind.
-pub const ACTION_FIELDS: usize = 6;
+/// Fields of a surface record: texture, mip, layer, slice.
+pub const SURFACE_FIELDS: usize = 4;
+/// Fields of an action record: texture, mip, mips, layer, layers, kind, slice.
+pub const ACTION_FIELDS: usize = 7;
 /// Bytes of a surface record.
 pub const SURFACE_LEN: usize = SURFACE_FIELDS * FIELD_LEN;
 /// Bytes of an action record.
 pub const ACTION_LEN: usize = ACTION_FIELDS * FIELD_LEN;
-/// Where an action record has its kind: its last field.
-pub const ACTION_KIND_AT: usize = ACTION_LEN - FIELD_LEN;
+/// Where a surface record has its slice: its last field.
+pub const SURFACE_SLICE_AT: usize = SURFACE_LEN - FIELD_LEN;
+/// Where an action record has its kind, and behind it its slice: its last field.
+pub const ACTION_KIND_AT: usize = ACTION_SLICE_AT - FIELD_LEN;
+pub const ACTION_SLICE_AT: usize = ACTION_LEN - FIELD_LEN;
 
 /// Bytes that the lent discard list needs.
 pub const DISCARDS_LEN: usize = COUNT_LEN + DISCARDS * SURFACE_LEN;
@@ -142,6 +145,9 @@ pub const REPLY_FIELDS: usize = 11;
 /// Bytes of a reply: its fields, up to where an attachment may stand, and the attachments.
 pub const REPLY_LEN: usize = (REPLY_FIELDS * FIELD_LEN).next_multiple_of(COLOR_NUMBER_LEN)
     + MOST_ATTACHMENTS * ATTACHMENT_LEN;
+
+/// Bytes of the answer to where a surface's status byte is: a number and an index.
+pub const INDEX_LEN: usize = 2 * FIELD_LEN;
 
 /// Flag: strict WebGPU compliance.
 pub const STRICT: u32 = 1;

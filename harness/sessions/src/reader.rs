@@ -54,18 +54,37 @@ fn texture_fits(t: &Texture) -> bool {
         && t.usage <= ALL_USAGES
 }
 
+/// Whether a texture is 3D: its surfaces are slices.
+pub fn is_volume(t: &Texture) -> bool {
+    t.dimension == 3
+}
+
 /// Layers of a texture: a 3D texture has one.
 pub fn layers(t: &Texture) -> u32 {
-    if t.dimension == 3 {
+    if is_volume(t) {
         1
     } else {
         t.depth_or_layers
     }
 }
 
+/// Slices of a mip: the mip's depth in a 3D texture, else one.
+pub fn slices(t: &Texture, mip: u32) -> u32 {
+    if is_volume(t) {
+        (t.depth_or_layers >> mip).max(1)
+    } else {
+        1
+    }
+}
+
+/// Surfaces of a texture, over all its mips.
+pub fn surfaces_of(t: &Texture) -> u32 {
+    (0..t.mips).map(|mip| slices(t, mip) * layers(t)).sum()
+}
+
 /// Surfaces of all textures together.
 pub fn surfaces(session: &Session) -> u32 {
-    session.textures.iter().map(|t| t.mips * layers(t)).sum()
+    session.textures.iter().map(surfaces_of).sum()
 }
 
 /// A view row whose fields are lawful for its texture.

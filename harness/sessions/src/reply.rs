@@ -3,12 +3,17 @@
 
 use std::fmt::{self, Display};
 
-/// A surface: texture, mip and layer.
-#[derive(Clone, Copy, Debug, PartialEq, Eq, Hash, PartialOrd, Ord)]
+use crate::reader;
+use crate::rows::Texture;
+use crate::volumes::without_volumes;
+
+/// A surface: texture, mip and layer, or slice of a 3D texture. The other of the two is 0.
+#[derive(Clone, Copy, Debug, Default, PartialEq, Eq, Hash, PartialOrd, Ord)]
 pub struct Surface {
     pub texture: u32,
     pub mip: u32,
     pub layer: u32,
+    pub slice: u32,
 }
 
 /// What an action asks of its range.
@@ -20,13 +25,14 @@ pub enum Kind {
     Implicit,
 }
 
-/// An entry of the action list: a range of surfaces of one texture.
+/// An entry of the action list: a range of surfaces of one texture, all of one slice.
 #[derive(Clone, Copy, Debug, PartialEq, Eq)]
 pub struct Action {
     pub kind: Kind,
     pub texture: u32,
     pub mips: (u32, u32),
     pub layers: (u32, u32),
+    pub slice: u32,
 }
 
 /// Operation bits of an attachment; a resolve target has none.
@@ -177,7 +183,13 @@ pub fn full_text(answer: &Answer) -> String {
 
 impl Display for Surface {
     fn fmt(&self, f: &mut fmt::Formatter) -> fmt::Result {
-        write!(f, "({} {} {})", self.texture, self.mip, self.layer)
+        let Surface {
+            texture,
+            mip,
+            layer,
+            slice,
+        } = self;
+        write!(f, "({texture} {mip} {layer} {slice})")
     }
 }
 
@@ -190,8 +202,8 @@ impl Display for Action {
         let (mips, layers) = (self.mips, self.layers);
         write!(
             f,
-            "({kind} {} {}..{} {}..{})",
-            self.texture, mips.0, mips.1, layers.0, layers.1
+            "({kind} {} {}..{} {}..{} {})",
+            self.texture, mips.0, mips.1, layers.0, layers.1, self.slice
         )
     }
 }
@@ -259,17 +271,19 @@ fn spaced<T: Display>(entries: &[T]) -> String {
     entries.iter().map(|entry| format!(" {entry}")).collect()
 }
 
-/// The first difference between what the Rust tells and what the model says, if any.
-/// A place that the Rust does not tell is not compared.
-pub fn first_difference(rust: &Answer, model: &Answer) -> Option<String> {
+/// The first difference between what the Rust tells of a file and what the model says, if any.
+/// A place that the Rust does not tell is not compared, nor what names a 3D texture.
+pub fn first_difference(file: &[u8], rust: &Answer, model: &Answer) -> Option<String> {
     match (rust, model) {
         (Ok(rust), Ok(model)) => {
             if rust.len() != model.len() {
                 return Some(format!("{} passes, {} passes", rust.len(), model.len()));
             }
+            let textures = textures(file);
+            let compared = |row: &Judged| without_volumes(row, &textures);
             rust.iter()
                 .zip(model)
-                .find(|(r, m)| fill_places(r, m) != **m)
+                .find(|(r, m)| compared(&fill_places(r, m)) != compared(m))
                 .map(|(r, m)| format!("the Rust:\n{r}the model:\n{m}"))
         }
         (Err(rust), Err(model)) if rust == model => None,
@@ -279,6 +293,11 @@ pub fn first_difference(rust: &Answer, model: &Answer) -> Option<String> {
             full_text(model)
         )),
     }
+}
+
+/// The textures of a file; none of one that is refused.
+fn textures(file: &[u8]) -> Vec<Texture> {
+    reader::read(file).map_or(Vec::new(), |session| session.textures)
 }
 
 /// The Rust's row with the places that it does not tell taken from the model's.

@@ -31,11 +31,12 @@ fn the_header_has_its_fields_in_document_01s_order() {
 #[test]
 fn lent_lengths_are_document_01s() {
     assert_eq!((DISCARDS, ACTIONS, CLEARS), (64, 512, 80));
-    assert_eq!((SURFACE_LEN, ACTION_LEN, ACTION_KIND_AT), (12, 24, 20));
-    assert_eq!((DISCARDS_LEN, ACTIONS_LEN, CLEARS_LEN), (772, 12292, 964));
+    assert_eq!((SURFACE_LEN, SURFACE_SLICE_AT), (16, 12));
+    assert_eq!((ACTION_LEN, ACTION_KIND_AT, ACTION_SLICE_AT), (28, 20, 24));
+    assert_eq!((DISCARDS_LEN, ACTIONS_LEN, CLEARS_LEN), (1028, 14340, 1284));
     assert_eq!((STATUS_LEN, ROW_LEN, ROWS_LEN), (4096, 36, 3600));
     assert_eq!((MOST_ATTACHMENTS, REPLY_LEN), (17, 1000));
-    assert_eq!((ATTACHMENT_LEN, COLOR_LEN), (56, 32));
+    assert_eq!((ATTACHMENT_LEN, COLOR_LEN, INDEX_LEN), (56, 32, 8));
 }
 
 #[test]

@@ -1,7 +1,7 @@
 //! The reader's numbers at the edges of every range.
 
 use sessions::layout::*;
-use sessions::reader::{pass_fits, read};
+use sessions::reader::{pass_fits, read, surfaces, surfaces_of};
 use sessions::rows::*;
 use sessions::text;
 
@@ -110,29 +110,70 @@ fn depth_formats_need_dimension_2() {
     assert_eq!((with(20, 1), with(25, 3), with(20, 2)), (3, 3, 0));
 }
 
+/// A session of so many textures of a kind, and some of one surface; its view is unlawful.
+fn textures(kind: Texture, count: u32, more: u32) -> Session {
+    let mut session = small();
+    session.textures = vec![kind; count as usize];
+    session.textures.extend(vec![PLAIN_TEXTURE; more as usize]);
+    session.views[0].layer_count = 99;
+    session
+}
+
 #[test]
 fn surfaces_are_counted_before_views() {
-    let with = |dimension: u32, layers: u32, mips: u32, more: u32| {
-        let mut session = small();
-        let texture = Texture {
-            dimension,
-            depth_or_layers: layers,
-            mips,
+    let layered = Texture {
+        depth_or_layers: MAX_LAYERS,
+        mips: MAX_SURFACES / 16 / MAX_LAYERS,
+        ..PLAIN_TEXTURE
+    };
+    let with = |more: u32| number(&textures(layered, 16, more));
+    assert_eq!(with(0), 4, "as many as may be");
+    assert_eq!(with(1), 3, "one more");
+}
+
+#[test]
+fn slices_are_counted() {
+    let volume = |depth: u32, mips: u32| Texture {
+        dimension: 3,
+        depth_or_layers: depth,
+        mips,
+        ..PLAIN_TEXTURE
+    };
+    let counts = [(5, 3, 8), (1, 15, 15), (4, 1, 4), (31, 5, 57), (32, 15, 72)];
+    for (depth, mips, slices) in counts {
+        assert_eq!(surfaces_of(&volume(depth, mips)), slices);
+    }
+    let deepest = volume(MAX_LAYERS, MAX_MIPS);
+    let counted = |session: Session| (surfaces(&session), number(&session));
+    assert_eq!(counted(textures(deepest, 56, 0)), (4032, 4));
+    assert_eq!(counted(textures(deepest, 57, 0)), (4104, 3));
+    let with_64_slices = |more: u32| {
+        let mut session = textures(deepest, 56, more);
+        session.textures.extend([volume(MAX_LAYERS, 1); 2]);
+        session
+    };
+    assert_eq!(counted(with_64_slices(0)), (4096, 4), "as many as may be");
+    assert_eq!(counted(with_64_slices(1)), (4097, 3), "one more");
+}
+
+#[test]
+fn a_3d_texture_has_one_layer() {
+    let with = |base_layer: u32, layer_count: u32| {
+        let mut session = Session::new();
+        session.textures.push(Texture {
+            dimension: 3,
+            depth_or_layers: 4,
             ..PLAIN_TEXTURE
-        };
-        session.textures = vec![texture; 16];
-        session.textures.extend(vec![PLAIN_TEXTURE; more as usize]);
-        session.views[0].layer_count = 99;
+        });
+        session.views.push(View {
+            dimension: D3,
+            base_layer,
+            layer_count,
+            ..PLAIN_VIEW
+        });
         number(&session)
     };
-    let mips = MAX_SURFACES / 16 / MAX_LAYERS;
-    assert_eq!(with(2, MAX_LAYERS, mips, 0), 4, "as many as may be");
-    assert_eq!(with(2, MAX_LAYERS, mips, 1), 3, "one more");
-    assert_eq!(
-        with(3, MAX_LAYERS, mips, 1),
-        4,
-        "a 3D texture has one layer"
-    );
+    assert_eq!([with(0, 1), with(0, 2), with(1, 1)], [0, 4, 4]);
 }
 
 #[test]

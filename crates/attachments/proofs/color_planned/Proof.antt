@@ -1,7 +1,6 @@
--- The surfaces are the view's, and the rest is the plan of the slot's operations.
+-- The surfaces are the view's at the slot's slice, and the rest is the plan of the slot's operations.
 use mathlib.Core.Path.{ap, _∙_}
 use Rattle.definition.specs.Attachments.{regularKind}
-use Rattle.definition.specs.Session.{viewRange}
 use mathlib.Core.Bool.{not}
 use borrow.Author.Needs.{needs}
 use Rattle.attachments.proofs.color_planned.Statement.{statement}
@@ -9,7 +8,7 @@ use Rattle.attachments.proofs.color_planned.Tie as tie
 
 returns : tie.Need-returns
 returns c = record {
-  range = c .view-range .ensures ∙ ap viewRange (c .before .view .ensures);
+  range = simp (c .slice-range .ensures, c .before .view .ensures);
   kind = c .before .before .color-plan .ensures .0 ∙ ap regularKind (c .before .before .before .ops-of .ensures);
   discards = c .before .before .color-plan .ensures .1 ∙ ap (λ o. not (o .keep)) (c .before .before .before .ops-of .ensures);
 }

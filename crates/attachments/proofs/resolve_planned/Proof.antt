@@ -1,13 +1,11 @@
 -- The surfaces are the view's, and the rest is the plan of a resolve target.
-use mathlib.Core.Path.{ap, _∙_}
-use Rattle.definition.specs.Session.{viewRange}
 use borrow.Author.Needs.{needs}
 use Rattle.attachments.proofs.resolve_planned.Statement.{statement}
 use Rattle.attachments.proofs.resolve_planned.Tie as tie
 
 returns : tie.Need-returns
 returns c = record {
-  range = c .view-range .ensures ∙ ap viewRange (c .before .view .ensures);
+  range = simp (c .slice-range .ensures, c .before .view .ensures);
   kind = c .before .before .resolve-plan .ensures .0;
   discards = c .before .before .resolve-plan .ensures .1;
 }

@@ -3,7 +3,6 @@
 use Prim.Native.Nat.{ℕ, zero, suc, _<_}
 use native.Mathlib.Omega.{arith}
 use mathlib.Core.Path.{_≡_, refl, sym, ap, _∙_}
-use mathlib.Core.Logic.{_≢_}
 use mathlib.Core.Bool.{true, false}
 use mathlib.Core.List.{List, [], _∷_, _++_}
 use lib.ListN.{replicate}
@@ -29,9 +28,9 @@ use Rattle.desk.proofs.EntryPoints.Theorem.{demand-three-of-calls}
 abbrev example : List ℕ
 example = file 8 0 1 (texture 3 2 4 1 1 1 16 ∷ []) (view 0 2 1 1 16 0 ∷ []) (colors (slot 0 1 1 ∷ []) ∷ colors (slot 0 0 0 ∷ []) ∷ [])
 
--- Its one surface is 0 0 0. Pass 1 needs it, and registers again what it finds discarded.
+-- Its one surface is 0 0 0 0. Pass 1 needs it, and registers again what it finds discarded.
 abbrev registered : List ℕ
-registered = (0 ∷ 0 ∷ 1 ∷ 0 ∷ 1 ∷ 1 ∷ []) ++ (0 ∷ 0 ∷ 1 ∷ 0 ∷ 1 ∷ 0 ∷ [])
+registered = (0 ∷ 0 ∷ 1 ∷ 0 ∷ 1 ∷ 1 ∷ 0 ∷ []) ++ (0 ∷ 0 ∷ 1 ∷ 0 ∷ 1 ∷ 0 ∷ 0 ∷ [])
 
 -- What stands where a call is to write.
 abbrev nines : ℕ → List ℕ
@@ -58,19 +57,19 @@ accepted i b b′ o h fine left rest lengths status =
 -- The buffers before and after each call. Behind what the calls write, x, y, z and w are anything.
 module _ (x y z w : List ℕ) where
   abbrev first : Buffers
-  first = buffers (words (0 ∷ nines 3) ++ x) (words (0 ∷ nines 12) ++ y) (words (0 ∷ nines 3) ++ z) (0 ∷ w)
+  first = buffers (words (0 ∷ nines 4) ++ x) (words (0 ∷ nines 14) ++ y) (words (0 ∷ nines 4) ++ z) (0 ∷ w)
 
   -- Pass 0 lists a discard.
   abbrev second : Buffers
-  second = buffers (words (1 ∷ 0 ∷ 0 ∷ 0 ∷ []) ++ x) (words (0 ∷ nines 12) ++ y) (words (0 ∷ nines 3) ++ z) (0 ∷ w)
+  second = buffers (words (1 ∷ 0 ∷ 0 ∷ 0 ∷ 0 ∷ []) ++ x) (words (0 ∷ nines 14) ++ y) (words (0 ∷ nines 4) ++ z) (0 ∷ w)
 
   -- Pass 1 loads the surface: its discard is returned as a clear, and two actions are registered.
   abbrev third : Buffers
-  third = buffers (words (0 ∷ 0 ∷ 0 ∷ 0 ∷ []) ++ x) (words (2 ∷ registered) ++ y) (words (1 ∷ 0 ∷ 0 ∷ 0 ∷ []) ++ z) (0 ∷ w)
+  third = buffers (words (0 ∷ 0 ∷ 0 ∷ 0 ∷ 0 ∷ []) ++ x) (words (2 ∷ registered) ++ y) (words (1 ∷ 0 ∷ 0 ∷ 0 ∷ 0 ∷ []) ++ z) (0 ∷ w)
 
   -- The submission empties discards and actions, and the surface is cleared and filled.
   abbrev last : Buffers
-  last = buffers (words (0 ∷ 0 ∷ 0 ∷ 0 ∷ []) ++ x) (words (0 ∷ registered) ++ y) (words (1 ∷ 0 ∷ 0 ∷ 0 ∷ []) ++ z) (3 ∷ w)
+  last = buffers (words (0 ∷ 0 ∷ 0 ∷ 0 ∷ 0 ∷ []) ++ x) (words (0 ∷ registered) ++ y) (words (1 ∷ 0 ∷ 0 ∷ 0 ∷ 0 ∷ []) ++ z) (3 ∷ w)
 
   abbrev turns : List Turn
   turns =
@@ -122,15 +121,11 @@ module _ (x y z w : List ℕ) where
     -- So the theorem speaks of it.
     pub hidden : (Val : Type 0) (D : Drawing Val) (c c′ : Contents Val) → HiddenIn D c c′ example first turns
     unfolding computing
-    hidden = demand-three-of-calls example refl refl single flat first fresh turns run
+    hidden = demand-three-of-calls example refl refl single first fresh turns run
       where
         single : (k : ℕ) → k < session example .viewCount → session example .view k .layers ≡ 1
         single zero h = refl
         single (suc k) h = absurd (omega arith)
-
-        flat : (k : ℕ) → k < session example .textureCount → session example .texture k .dimension ≢ 3
-        flat zero h = λ e. omega arith
-        flat (suc k) h = absurd (omega arith)
 
 -- With as many nines behind each as make it longer than it must be: a run, and nothing is left open.
 abbrev spare : List ℕ

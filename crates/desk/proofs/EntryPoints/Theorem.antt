@@ -209,17 +209,17 @@ never-six-of-calls s ok b h ts r n k =
     (ap (lentRight (session s)) (run .states n) ∙ never-six s ok (heldIn b) (fresh-held s b h) (take n (callsOf ts)))
 
 pub demand-three-of-calls : DemandThreeOfCalls
-demand-three-of-calls s ok st single flat b h ts r Val D c c′ =
+demand-three-of-calls s ok st single b h ts r Val D c c′ =
     let run = from-fresh s ok b h ts r in
     let S : Session = session s in
     let σ : State = heldIn b in
     let calls : List Call = callsOf ts in
-    let claim : Hidden D c c′ S σ calls = demand-three s ok st single flat Val D c c′ σ (fresh-held s b h) calls in
+    let claim : Hidden D c c′ S σ calls = demand-three s ok st single Val D c c′ σ (fresh-held s b h) calls in
     let first : (n : ℕ) → take n (answersIn ts) ≡ answers S (take n calls) σ = λ n. ap (take n) (run .answered) ∙ sym (first-answers S calls σ n) in
     let bytes : (n : ℕ) → buffersAfter b ts n .status ≡ after S (take n calls) σ .status = λ n. ap (λ (τ : State). τ .status) (run .states n) in
     record {
-      loads = (λ q. loaded D (c .left) S (events S 0 (run .answered q)) [] (c .first)) ∙ claim .loads ∙ sym (λ q. loaded D (c′ .left) S (events S 0 (run .answered q)) [] (c′ .first));
-      marks = λ n x i. ap (λ l. filled (byteOf S l x)) (bytes n) ∙ claim .marks n x i ∙ sym (λ q. kept (lastUse none (submittedFrom (events S 0 (first n q)) [] []) x));
-      equal = λ n x i f. subst (λ l. Agree S x (cells D (c .left) S (events S 0 l) [] (c .first)) (cells D (c′ .left) S (events S 0 l) [] (c′ .first))) (sym (first n))
+      loads = (λ q. loaded D (c .left) S (events S 0 calls (run .answered q)) [] (c .first)) ∙ claim .loads ∙ sym (λ q. loaded D (c′ .left) S (events S 0 calls (run .answered q)) [] (c′ .first));
+      marks = λ n x i. ap (λ l. filled (byteOf S l x)) (bytes n) ∙ claim .marks n x i ∙ sym (λ q. kept (lastUse none (submittedFrom (events S 0 (take n calls) (first n q)) [] []) x));
+      equal = λ n x i f. subst (λ l. Agree S x (cells D (c .left) S (events S 0 (take n calls) l) [] (c .first)) (cells D (c′ .left) S (events S 0 (take n calls) l) [] (c′ .first))) (sym (first n))
           (claim .equal n x i (sym (ap (λ l. filled (byteOf S l x)) (bytes n)) ∙ f));
     }

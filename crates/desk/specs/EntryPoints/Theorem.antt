@@ -11,22 +11,26 @@ use Rattle.definition.specs.Status.{filled}
 use Rattle.definition.specs.Calls.{Call, called}
 use Rattle.definition.specs.declared.Surface.{Surface}
 use Rattle.laws.specs.Surfaces.{Inside}
-use Rattle.noninterference.specs.Memory.{Cells, Drawing, Contents, events, byteOf, loaded, cells}
+use Rattle.noninterference.specs.Memory.{Cells, Drawing, Contents, Event, events, byteOf, loaded, cells}
 use Rattle.noninterference.specs.Claim.{submittedFrom, lastUse, kept, Agree}
 use Rattle.noninterference.specs.Theorem.{OfStrictSessions}
 use Rattle.desk.specs.Entry.{Buffers, heldIn, entry}
-use Rattle.desk.specs.EntryPoints.Run.{FreshBuffers, Turn, Run, buffersAfter, answersIn}
+use Rattle.desk.specs.EntryPoints.Run.{FreshBuffers, Turn, Run, callsOf, buffersAfter, answersIn}
 
 -- A surface's status byte after the first n calls.
 abbrev pub byteAfterCalls : List ℕ → Buffers → List Turn → ℕ → Surface → ℕ
 byteAfterCalls s b ts n x = byteOf (session s) (buffersAfter b ts n .status) x
 
+-- What the memory is told of the first n calls.
+abbrev pub heardFirst : List ℕ → List Turn → ℕ → List Event
+heardFirst s ts n = events (session s) 0 (take n (callsOf ts)) (take n (answersIn ts))
+
 -- What the passes load or clear to, and the memory after the first n calls.
 abbrev pub loadedIn : {Val : Type 0} → Drawing Val → Contents Val → List ℕ → List Turn → List (List Val)
-loadedIn D c s ts = loaded D (c .left) (session s) (events (session s) 0 (answersIn ts)) [] (c .first)
+loadedIn D c s ts = loaded D (c .left) (session s) (events (session s) 0 (callsOf ts) (answersIn ts)) [] (c .first)
 
 abbrev pub memoryIn : {Val : Type 0} → Drawing Val → Contents Val → List ℕ → List Turn → ℕ → Cells Val
-memoryIn D c s ts n = cells D (c .left) (session s) (events (session s) 0 (take n (answersIn ts))) [] (c .first)
+memoryIn D c s ts n = cells D (c .left) (session s) (heardFirst s ts n) [] (c .first)
 
 -- Two runs with the same drawing over the same calls; the contents at the start and after each discard are c in one and c′ in the other.
 pub record HiddenIn {Val : Type 0} (D : Drawing Val) (c c′ : Contents Val) (s : List ℕ) (b : Buffers) (ts : List Turn) : Type 0 where
@@ -34,7 +38,7 @@ pub record HiddenIn {Val : Type 0} (D : Drawing Val) (c c′ : Contents Val) (s 
   pub loads : loadedIn D c s ts ≡ loadedIn D c′ s ts
   -- After the first n calls, filled are exactly the surfaces that some submitted pass had and that the last such pass kept in some aspect,
   pub marks : (n : ℕ) (x : Surface) → Inside (session s) x
-      → filled (byteAfterCalls s b ts n x) ≡ kept (lastUse none (submittedFrom (events (session s) 0 (take n (answersIn ts))) [] []) x)
+      → filled (byteAfterCalls s b ts n x) ≡ kept (lastUse none (submittedFrom (heardFirst s ts n) [] []) x)
   -- and these are equal in both.
   pub equal : (n : ℕ) (x : Surface) → Inside (session s) x → filled (byteAfterCalls s b ts n x) ≡ true
       → Agree (session s) x (memoryIn D c s ts n) (memoryIn D c′ s ts n)

@@ -3,7 +3,6 @@ use mathlib.Core.Path.{_≡_, refl, sym, _∙_}
 use Prim.Native.Nat.{_-_, _≤_, _<_}
 use native.Mathlib.Omega.{arith}
 use native.Mathlib.Numerals.{add-one}
-use borrow.Author.Needs.{needs}
 use lib.ListN.{length, take, drop, length-set}
 use lib.Seq.{take-suc-set, drop-set-lt}
 use Rattle.lent.specs.Numbers.{numbersAt}
@@ -25,7 +24,7 @@ unfolding numbersAt
 loop-again c =
     let at = c .before .before .loop in
     let h : at .i < length (at .out) = omega arith in (
-      rw (add-one, take-suc-set) (simp (at .inv .0, c .u32-at .ensures)),
+      rw (add-one, take-suc-set) (simp (at .inv .0, c .u32-inside .ensures)),
       drop-set-lt _ (at .out) (at .i) _ (c .before .loop-test .taken) ∙ at .inv .1,
       simp length-set (at .inv .2),
       omega arith,
@@ -48,7 +47,7 @@ read-numbers-spec =
     loop-holds
     (λ c. omega arith)
     (λ c. omega arith)
-    (λ c κs. search needs)
+    (λ c κs. omega arith)
     (λ c. omega arith)
     (λ c. omega arith)
     (λ c. omega arith)

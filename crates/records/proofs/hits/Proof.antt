@@ -6,7 +6,7 @@ use Rattle.records.proofs.hits.Tie as tie
 
 returns : tie.Need-returns
 unfolding hits
-returns c = simp (c .before .within .ensures, c .within2 .ensures)
+returns c = cc
 
 pub hits-spec : {M : Type 1} → statement M
 hits-spec = tie.close (tie.spec (λ c κs. search needs) (λ c κs. search needs) returns)

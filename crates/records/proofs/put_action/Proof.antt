@@ -1,4 +1,4 @@
--- Six stores in a row are the record's numbers.
+-- Seven stores in a row are the record's numbers.
 use native.Mathlib.Omega.{arith}
 use lib.ListN.{length-set}
 use Rattle.records.proofs.Numbers.{action-stores}
@@ -20,6 +20,9 @@ slice-write-l-5 c = simp length-set (omega arith)
 
 slice-write-l-6 : tie.Need-slice-write-l-6
 slice-write-l-6 c = simp length-set (omega arith)
+
+slice-write-l-7 : tie.Need-slice-write-l-7
+slice-write-l-7 c = simp length-set (omega arith)
 
 returns : tie.Need-returns
 returns c = let start = c .before .before in
@@ -48,5 +51,8 @@ put-action-spec =
     (λ c. search needs)
     (λ c. search needs)
     slice-write-l-6
+    (λ c. search needs)
+    (λ c. search needs)
+    slice-write-l-7
     (λ c. search needs)
     returns)

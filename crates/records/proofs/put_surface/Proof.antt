@@ -1,4 +1,4 @@
--- Three stores in a row are the record's numbers.
+-- Four stores in a row are the record's numbers.
 use native.Mathlib.Omega.{arith}
 use lib.ListN.{length-set}
 use Rattle.records.proofs.Numbers.{surface-stores}
@@ -11,6 +11,9 @@ slice-write-l-2 c = simp length-set (omega arith)
 
 slice-write-l-3 : tie.Need-slice-write-l-3
 slice-write-l-3 c = simp length-set (omega arith)
+
+slice-write-l-4 : tie.Need-slice-write-l-4
+slice-write-l-4 c = simp length-set (omega arith)
 
 returns : tie.Need-returns
 returns c = surface-stores (c .args .l .now) (c .args .i) (c .args .s)
@@ -28,5 +31,8 @@ put-surface-spec =
     (λ c. search needs)
     (λ c. search needs)
     slice-write-l-3
+    (λ c. search needs)
+    (λ c. search needs)
+    slice-write-l-4
     (λ c. search needs)
     returns)

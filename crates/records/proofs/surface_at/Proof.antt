@@ -1,4 +1,4 @@
--- The three numbers are read where the record has them.
+-- The four numbers are read where the record has them.
 use Rattle.records.proofs.Numbers.{surface-read}
 use borrow.Author.Needs.{needs}
 use Rattle.records.proofs.surface_at.Statement.{statement}
@@ -11,6 +11,9 @@ pub surface-at-spec : {M : Type 1} → statement M
 surface-at-spec =
     tie.close
     (tie.spec
+    (λ c. search needs)
+    (λ c. search needs)
+    (λ c. search needs)
     (λ c. search needs)
     (λ c. search needs)
     (λ c. search needs)

@@ -1,49 +1,51 @@
--- The rows of the range are its surfaces.
-use mathlib.Core.Path.{_≡_, sym, ap, _∙_}
-use mathlib.Core.Path.{subst}
-use Rattle.definition.specs.Session.{session, arrayLayers, surfaceIndex}
-use Rattle.definition.specs.Surfaces.{firstOf}
-use Rattle.definition.specs.Status.{actByte}
-use Rattle.laws.specs.Surfaces.{Inside}
-use Rattle.laws.proofs.Views.{range-first}
-use Rattle.submission.specs.Runs.{rows}
-use Rattle.submission.proofs.Sweeps.{action-sweeps, rows-room}
-use borrow.Author.Needs.{needs}
+-- The bytes so far are swept by the mips so far.
+use native.Mathlib.Omega.{arith}
+use mathlib.Core.Path.{_≡_, refl, ap, _∙_}
+use Prim.Native.Nat.{ℕ, _-_, _≤_, zero-le}
+use lib.ListN.{length}
+use Rattle.definition.specs.Session.{session, surfacesOf}
+use Rattle.laws.specs.Submission.{sweep, actAt}
+use Rattle.records.specs.Lent.{actionOf}
+use Rattle.submission.specs.Runs.{firstMips}
+use Rattle.submission.proofs.Sweeps.{mips-none, mips-further}
 use Rattle.submission.proofs.act.Statement.{statement}
 use Rattle.submission.proofs.act.Tie as tie
 
--- The place of the first surface, and the layers of a mip.
-first : (c : tie.After-surface-index) → c .surface-index .result ≡ surfaceIndex (session (c .before .before .before .before .before .args .s .now)) (firstOf (c .before .before .before .before .before .args .range))
-first c = c .surface-index .ensures ∙ ap (surfaceIndex (session (c .before .before .before .before .before .args .s .now))) (c .before .first-of .ensures)
+abbrev Inv-loop : tie.InvT-loop
+Inv-loop s bases status₀ range kind m₀ status m = (status ≡ sweep (actAt (actionOf (firstMips range m) kind)) (surfacesOf (session s)) status₀) × (m ≤ range .mips) × (length status ≡ length status₀)
 
-layers : (c : tie.After-wide) → c .wide .result ≡ arrayLayers (session (c .before .before .before .before .before .before .before .before .args .s .now) .texture (c .before .before .before .before .before .before .before .before .args .range .texture))
-layers c = c .wide .ensures ∙ c .before .array-layers .ensures ∙ ap arrayLayers (c .before .before .texture .ensures)
+abbrev μ-loop : tie.MeasureT-loop
+μ-loop s bases status₀ range kind m₀ status m = range .mips - m
 
-surface-index-requires : tie.Need-surface-index-requires
-surface-index-requires c κs = let start = c .before .before .before .before in
-    (start .pre .0, (subst (Inside (session (start .args .s .now))) (sym (c .first-of .ensures)) (range-first (session (start .args .s .now)) (start .args .range) (start .pre .1 .0)), start .pre .1 .1 .0))
+loop-holds : tie.Need-loop-holds Inv-loop μ-loop
+loop-holds c =
+    let start = c .before .before .before in
+    (mips-none (session (start .args .s .now)) (start .args .range) (start .pre .1 .0) (start .args .kind) (start .args .status .now), zero-le, refl)
 
-act-rows-requires : tie.Need-act-rows-requires
-act-rows-requires c κs = let start = c .before .before .before .before .before .before .before .before .before .before .before in
-    rows-room (session (start .args .s .now)) (start .args .range) (start .pre .1 .0) _ _ _ _ _ (first (c .before .before .before .before .before .before)) (layers (c .before .before .before)) (c .before .wide2 .ensures) (c .wide3 .ensures) (start .pre .1 .1 .0) (start .pre .1 .1 .1)
+act-mip-requires : tie.Need-act-mip-requires Inv-loop μ-loop
+act-mip-requires c κs =
+    let at = c .before .before .before in
+    let start = at .before .before .before .before in
+    (start .pre .0, (start .pre .1 .0, (c .before .if1 .taken, (start .pre .1 .1 .0, omega (arith, start .pre .1 .1 .1, at .loop .inv .2)))))
 
-returns : tie.Need-returns
-returns c = let start = c .before .before .before .before .before .before .before .before .before .before .before .before .before .before in
-    c .before .before .act-rows .ensures
-    ∙ (λ q. rows (actByte (start .args .kind)) (first (c .before .before .before .before .before .before .before .before .before) q) (layers (c .before .before .before .before .before .before) q) (c .before .before .before .before .wide2 .ensures q) (c .before .before .before .wide3 .ensures q) (start .args .status .now))
-    ∙ action-sweeps (session (start .args .s .now)) (start .args .range) (start .args .kind) (start .args .status .now) (start .pre .1 .0) (start .pre .1 .1 .1)
+loop-again : tie.Need-loop-again Inv-loop μ-loop
+loop-again c =
+    let at = c .before .before .before .before .before .before in
+    let start = at .before .before .before .before in (
+      mips-further (session (start .args .s .now)) (start .args .range) (start .pre .1 .0) (start .args .kind) (at .loop .m) (start .args .status .now) (at .loop .status) _ (at .loop .inv .0) (c .before .before .act-mip .ensures),
+      omega arith,
+      c .before .before .act-mip .kept .1 .1 .0 ∙ at .loop .inv .2,
+    )
+
+same-length : tie.Need-same-length Inv-loop μ-loop
+same-length c = c .before .before .loop .inv .2
+
+returns : tie.Need-returns Inv-loop μ-loop
+returns c =
+    let at = c .before .before in
+    let start = at .before .before .before .before in
+    let all : at .loop .m ≡ start .args .range .mips = omega arith in
+    at .loop .inv .0 ∙ ap (λ (q : ℕ). sweep (actAt (actionOf (firstMips (start .args .range) q) (start .args .kind))) (surfacesOf (session (start .args .s .now))) (start .args .status .now)) all
 
 pub act-spec : {M : Type 1} → statement M
-act-spec =
-    tie.close
-    (tie.spec
-    (λ c κs. search needs)
-    surface-index-requires
-    (λ c κs. search needs)
-    (λ c κs. search needs)
-    (λ c κs. search needs)
-    (λ c κs. search needs)
-    (λ c κs. search needs)
-    act-rows-requires
-    (λ c. search needs)
-    returns)
+act-spec = tie.close (tie.spec Inv-loop μ-loop loop-holds act-mip-requires (λ c. omega arith) (λ c. omega arith) loop-again same-length returns)

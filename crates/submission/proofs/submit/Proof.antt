@@ -1,23 +1,38 @@
 -- What the parts leave, one after the other, is the submission.
 use native.Mathlib.Omega.{arith}
-use mathlib.Core.Path.{refl}
 use Rattle.definition.specs.Session.{session}
 use Rattle.submission.proofs.Sweeps.{submit-all}
 use borrow.Author.Needs.{needs}
 use Rattle.submission.proofs.submit.Statement.{statement}
 use Rattle.submission.proofs.submit.Tie as tie
 
+-- The places of the parts, each from the one behind it.
+abbrev bases-at : tie.After-restart-bytes → tie.After-texture-bases
+bases-at r = r .before .before .before
+
+abbrev start : tie.After-restart-bytes → tie.Start
+start r = bases-at r .before .before .before .before .before .before
+
 run-actions-requires : tie.Need-run-actions-requires
-run-actions-requires c κs = let start = c .before .before .before .before .before .before .before .before .before .before .before .before .before in
-    (c .before .before .before .before .before .before .before .texture-bases .ensures .1, (start .pre .actions, (start .pre .actions-long, (start .pre .surfaces, omega (arith, start .pre .status, c .before .before .before .before .restart-bytes .kept .0)))))
+run-actions-requires c κs =
+    let begun = c .before .before .before .before in
+    let pre = start begun .pre in
+    (bases-at begun .texture-bases .ensures .1, (pre .actions, (pre .actions-long, (pre .surfaces, omega (arith, pre .status, begun .restart-bytes .kept .0)))))
 
 run-discards-requires : tie.Need-run-discards-requires
-run-discards-requires c κs = let start = c .before .before .before .before .before .before .before .before .before .before .before .before .before .before .before .before .before .before in
-    (c .before .before .before .before .before .before .before .before .before .before .before .before .texture-bases .ensures .1, (start .pre .discards, (start .pre .discards-long, (start .pre .surfaces, omega (arith, start .pre .status, c .before .before .before .before .before .before .before .before .before .restart-bytes .kept .0, c .before .before .before .before .run-actions .kept .1 .1 .0)))))
+run-discards-requires c κs =
+    let acted = c .before .before .before .before in
+    let begun = acted .before .before .before .before .before in
+    let pre = start begun .pre in
+    (bases-at begun .texture-bases .ensures .1, (pre .discards, (pre .discards-long, (pre .surfaces, omega (arith, pre .status, begun .restart-bytes .kept .0, acted .run-actions .kept .1 .1 .0)))))
 
 returns : tie.Need-returns
-returns c = let start = c .before .before .before .before .before .before .before .before .before .before .before .before .before .before .before .before .before .before .before .before .before in
-    (submit-all (session (start .args .s .now)) _ _ _ _ _ _ _ (start .pre .status) (c .before .before .before .before .before .before .before .before .before .before .before .before .before .before .before .texture-bases .ensures .0) (c .before .before .before .before .before .before .before .before .before .before .before .before .restart-bytes .ensures) (c .before .before .before .before .before .before .before .run-actions .ensures) (c .before .before .run-discards .ensures), refl)
+returns c =
+    let emptied = c .before .before in
+    let acted = emptied .before .before .before .before .before in
+    let begun = acted .before .before .before .before .before in
+    submit-all (session (start begun .args .s .now)) _ _ _ _ _ _ _ (start begun .pre .status)
+    (bases-at begun .texture-bases .ensures .0) (begun .restart-bytes .ensures) (acted .run-actions .ensures) (emptied .run-discards .ensures)
 
 pub submit-spec : {M : Type 1} → statement M
 submit-spec =

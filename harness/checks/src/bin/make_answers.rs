@@ -3,14 +3,9 @@
 
 use std::process::ExitCode;
 
-use checks::answers::{list, to_bytes};
+use checks::answers::{list, to_bytes, SEED, SESSIONS};
 use checks::words::{only, value};
 use sessions::command::{arguments, end};
-
-/// Seed of the committed list.
-const SEED: u64 = 9_019;
-/// Sessions of the committed list.
-const SESSIONS: usize = 510;
 
 /// Makes the list and writes it.
 fn run(arguments: &[String]) -> Result<(), String> {

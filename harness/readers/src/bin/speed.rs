@@ -7,6 +7,7 @@ use std::time::Instant;
 use desk::Lists;
 use sessions::layout::*;
 use sessions::random::{self, Prng};
+use sessions::reader::surfaces_of;
 use sessions::rows::PLAIN_TEXTURE;
 use sessions::{Session, Texture};
 
@@ -58,6 +59,16 @@ fn layers(s: &[u8], at: usize) -> u32 {
         1
     } else {
         field(s, at, 4)
+    }
+}
+
+/// Surfaces of a texture row: its layers, or of a 3D texture its slices, over all mips.
+fn surfaces(s: &[u8], at: usize) -> u32 {
+    let (depth, mips) = (field(s, at, 4), field(s, at, 5));
+    if field(s, at, 1) == 3 {
+        (0..mips).map(|mip| (depth >> mip).max(1)).sum()
+    } else {
+        mips * depth
     }
 }
 
@@ -115,12 +126,15 @@ fn refusal(s: &[u8]) -> u32 {
     if !right {
         return 2;
     }
-    let rows = (0..textures as usize).map(|k| HEADER_LEN + TEXTURE_LEN * k);
-    let surfaces: u64 = rows
-        .clone()
-        .map(|at| u64::from(field(s, at, 5)) * u64::from(layers(s, at)))
-        .sum();
-    if !rows.clone().all(|at| texture_right(s, at)) || surfaces > u64::from(MAX_SURFACES) {
+    let mut counted = 0;
+    for k in 0..textures as usize {
+        let at = HEADER_LEN + TEXTURE_LEN * k;
+        if !texture_right(s, at) {
+            return 3;
+        }
+        counted += surfaces(s, at);
+    }
+    if counted > MAX_SURFACES {
         return 3;
     }
     if !(0..views as usize).all(|k| view_right(s, textures, view_start + VIEW_LEN * k)) {
@@ -155,18 +169,34 @@ fn textures_file(textures: u32, mips: u32, layers: u32) -> Vec<u8> {
         mips,
         ..PLAIN_TEXTURE
     };
+    file_of(texture, textures)
+}
+
+/// A session of so many equal textures.
+fn file_of(texture: Texture, count: u32) -> Vec<u8> {
     let session = Session {
-        textures: vec![texture; textures as usize],
+        textures: vec![texture; count as usize],
         ..Session::new()
     };
     session.to_bytes()
+}
+
+/// As many volumes of the greatest depth and the most mips as a session can have: 56.
+fn volumes_file() -> Vec<u8> {
+    let volume = Texture {
+        dimension: 3,
+        depth_or_layers: MAX_LAYERS,
+        mips: MAX_MIPS,
+        ..PLAIN_TEXTURE
+    };
+    file_of(volume, MAX_SURFACES / surfaces_of(&volume))
 }
 
 /// A list of so many needing actions, each over the first mip of a texture.
 fn actions(count: u32, textures: u32, layers: u32) -> Vec<u8> {
     let mut words = vec![count];
     for i in 0..count {
-        words.extend([i % textures, 0, 1, 0, layers, 1]);
+        words.extend([i % textures, 0, 1, 0, layers, 1, 0]);
     }
     words.iter().flat_map(|w| w.to_le_bytes()).collect()
 }
@@ -208,6 +238,7 @@ fn main() {
         &format!("{most} textures"),
         &textures_file(most, 2, MAX_LAYERS),
     );
+    reader("56 volumes", &volumes_file());
     println!();
     println!("| surfaces | actions | surfaces that they cover | ns |");
     println!("|---|---|---|---|");

@@ -1,8 +1,8 @@
 //! `differential [--seed S] [--passes N] [--enumerated]` compares the proved library with the Rust,
 //! and with the model where the Rust tells nothing: every field of every reply, every byte of the
-//! lent buffers, whole sessions, and again on buffers that are short or off by one. Random files
-//! until there are N passes; `--enumerated` adds the systematic sets. Ends with an error at the
-//! first difference.
+//! lent buffers, whole sessions, again on buffers that are short or off by one, and places of
+//! surfaces. Random files until there are N passes; `--enumerated` adds the systematic sets. Ends
+//! with an error at the first difference.
 
 use std::process::ExitCode;
 
@@ -12,7 +12,7 @@ use desk::Library;
 use runs::{arguments, end};
 
 /// Passes of all systematic sets together, for the progress.
-const ENUMERATED: u64 = 81_994;
+const ENUMERATED: u64 = 91_781;
 
 /// Prints what a run has seen.
 fn print(what: &str, tally: &Tally) {

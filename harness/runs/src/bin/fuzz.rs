@@ -15,7 +15,8 @@ use runs::{arguments, end};
 
 /// Writes an input's parts into a folder, over those of the input before.
 fn trace(folder: &str, input: &Input) -> Result<(), String> {
-    let call = format!("{:?} {} {}", input.function, input.pass, input.rows);
+    let (function, surface) = (input.function, input.surface);
+    let call = format!("{function:?} {} {} {surface}", input.pass, input.rows);
     let parts: [(&str, &[u8]); 6] = [
         ("call", call.as_bytes()),
         ("session", &input.session),

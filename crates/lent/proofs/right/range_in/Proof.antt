@@ -1,4 +1,4 @@
--- The six numbers are the action's.
+-- The seven numbers are the action's.
 use mathlib.Core.Path.{ap₂, _∙_}
 use Rattle.definition.specs.Surfaces.{rangeAt}
 use Rattle.records.specs.Lent.{layersOf}
@@ -9,8 +9,9 @@ use Rattle.lent.proofs.right.range_in.Tie as tie
 
 returns : tie.Need-returns
 returns c n h =
-    let layers = c .layers-of .ensures ∙ ap₂ layersOf (c .before .before .u32-inside5 .ensures) (c .before .u32-inside6 .ensures) in
-    (λ q. rangeAt (c .before .before .before .before .before .before .u32-inside .ensures q) (c .before .before .before .before .before .u32-inside2 .ensures q) (c .before .before .before .before .u32-inside3 .ensures q) (c .before .before .before .u32-inside4 .ensures q) (layers q))
+    let four = c .before .before .before .before in
+    let layers = c .before .layers-of .ensures ∙ ap₂ layersOf (c .before .before .before .u32-inside5 .ensures) (c .before .before .u32-inside6 .ensures) in
+    (λ q. rangeAt (four .before .before .before .u32-inside .ensures q) (four .before .before .u32-inside2 .ensures q) (four .before .u32-inside3 .ensures q) (four .u32-inside4 .ensures q) (layers q) (c .u32-inside7 .ensures q))
     ∙ range-packed _ _ n h
 
 pub range-in-spec : {M : Type 1} → statement M
@@ -30,5 +31,7 @@ range-in-spec =
     (λ c κs. search needs)
     (λ c. search needs)
     (λ c κs. search needs)
+    (λ c κs. search needs)
+    (λ c. search needs)
     (λ c κs. search needs)
     returns)

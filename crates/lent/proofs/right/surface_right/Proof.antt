@@ -1,13 +1,19 @@
--- What the calls promise, put together as the definition puts it together.
-use Rattle.definition.specs.Calls.{surfaceRight}
+-- The texture's number decides, or the tests of the texture do.
+use mathlib.Core.Path.{ap, _∙_}
 use borrow.Author.Needs.{needs}
+use borrow.Author.Tests.{le-ltb, lt-ltb}
+use Rattle.lent.specs.Right.{surfaceFits}
+use Rattle.lent.proofs.Fits.{surface-right}
 use Rattle.lent.proofs.right.surface_right.Statement.{statement}
 use Rattle.lent.proofs.right.surface_right.Tie as tie
 
 returns : tie.Need-returns
-unfolding surfaceRight
-returns c = simp (c .before .array-layers .ensures, c .before .before .before .before .before .texture-count .ensures, c .before .before .before .before .before .before .texture .ensures)
+returns c = surface-right _ _ (simp (c .before .before .texture-count .ensures) at (le-ltb _ _ (c .if1 .taken)))
+
+returns-2 : tie.Need-returns-2
+returns-2 c =
+    let args = c .before .before .before .before .before .before .args in
+    c .surface-fits .ensures ∙ ap (λ t. surfaceFits t (args .x)) (c .before .texture-inside .ensures) ∙ surface-right _ _ (simp (c .before .before .before .before .texture-count .ensures) at (lt-ltb _ _ (c .before .before .if1 .left)))
 
 pub surface-right-spec : {M : Type 1} → statement M
-surface-right-spec =
-    tie.close (tie.spec (λ c κs. search needs) (λ c κs. search needs) (λ c κs. search needs) returns)
+surface-right-spec = tie.close (tie.spec (λ c κs. search needs) returns (λ c κs. search needs) (λ c κs. search needs) returns-2)

@@ -2,6 +2,7 @@
 use native.Mathlib.Nat.{le-refl}
 use borrow.Author.Needs.{needs}
 use Rattle.readable.proofs.Valid.{valid-of}
+use Rattle.lent.proofs.Fits.{rows-inside}
 use Rattle.lent.proofs.Packing.{not-short, judged}
 use Rattle.lent.proofs.state.judge_lent.Statement.{statement}
 use Rattle.lent.proofs.state.judge_lent.Tie as tie
@@ -9,7 +10,8 @@ use Rattle.lent.proofs.state.judge_lent.Tie as tie
 lent-right-requires : tie.Need-lent-right-requires
 lent-right-requires c κs =
     let start = c .before .before .before .before .before .before in
-    (c .counts-of .ensures, (not-short _ _ _ _ (start .pre .0), valid-of _ (start .pre .1) .surfaces _ (le-refl _)))
+    let valid = valid-of _ (start .pre .1) in
+    (c .counts-of .ensures, (not-short _ _ _ _ (start .pre .0), (rows-inside _ valid, valid .surfaces _ (le-refl _))))
 
 returns : tie.Need-returns
 returns c =

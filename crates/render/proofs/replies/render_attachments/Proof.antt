@@ -7,7 +7,7 @@ use Prim.Native.Nat.{_+_, _*_, _≤_, _-_}
 use mathlib.Core.List.{List, [], _∷_, _++_, map, append-nil}
 use lib.ListN.{set}
 use borrow.Author.Needs.{needs}
-use Rattle.definition.specs.Session.{session, isNone, viewRange}
+use Rattle.definition.specs.Session.{session, isNone, sliceRange}
 use Rattle.definition.specs.Attachments.{depthStencilPart, slotParts, colorOf, resolveTo}
 use Rattle.definition.specs.Pass.{attachmentReply}
 use Rattle.definition.specs.declared.Attachment.{Attachment}
@@ -44,14 +44,14 @@ colored c xs h =
 -- Its resolve target, where it has one.
 resolved : (c : tie.Joined3 Inv-loop μ-loop) (xs : List Attachment) → Holds (c .before .before .if2 .records) (c .before .before .if2 .count) xs
     → let slot = c .before .before .before .before .slot .result in let S = session (c .before .before .before .before .before .before .before .before .before .before .args .s .now) in
-    Holds (c .if3 .records) (c .if3 .count) (xs ++ cond (not (isNone (slot .view)) && not (isNone (slot .resolve))) (attachmentReply S (resolveTo (slot .resolve) (viewRange (S .view (slot .resolve)))) ∷ []) [])
+    Holds (c .if3 .records) (c .if3 .count) (xs ++ cond (not (isNone (slot .view)) && not (isNone (slot .resolve))) (attachmentReply S (resolveTo (slot .resolve) (sliceRange (S .view (slot .resolve)) 0)) ∷ []) [])
 resolved c xs h =
     let test = c .before in
     let color = test .before in
     let start = color .before .before .before .before .before .before .before .before in
     let S = session (start .args .s .now) in
     ⊎-elim
-    (λ w. holds-more _ _ _ _ xs _ _ h (omega (arith, colored-count color, start .pre .1)) (sym (test .resolves .ensures) ∙ w .0 .taken) (w .3 ∙ ap (λ q. set (color .if2 .records) (color .if2 .count) q) (w .2 .ensures S (viewRange (S .view (color .before .before .slot .result .resolve))))) (w .4))
+    (λ w. holds-more _ _ _ _ xs _ _ h (omega (arith, colored-count color, start .pre .1)) (sym (test .resolves .ensures) ∙ w .0 .taken) (w .3 ∙ ap (λ q. set (color .if2 .records) (color .if2 .count) q) (w .2 .ensures S (sliceRange (S .view (color .before .before .slot .result .resolve)) 0))) (w .4))
     (λ w. holds-same _ _ _ _ xs _ _ h (sym (test .resolves .ensures) ∙ w .0 .left) (w .1) (w .2))
     (c .if3 .came)
 

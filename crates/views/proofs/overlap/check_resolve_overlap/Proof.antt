@@ -9,7 +9,7 @@ use Rattle.views.proofs.overlap.check_resolve_overlap.Statement.{statem
 use Rattle.views.proofs.overlap.check_resolve_overlap.Tie as tie
 
 returns : tie.Need-returns
-unfolding overlapVerdict
+unfolding takes overlapVerdict
 returns c =
     let c4 = c .before .before .before .before in
     let c6 = c4 .before .before in
@@ -17,8 +17,8 @@ returns c =
       c .unless .ensures,
       c .before .slots-meet .ensures,
       c .before .before .layers-meet .ensures,
-      c .before .before .before .range-taken2 .ensures,
-      c4 .range-taken .ensures,
+      c .before .before .before .slice-range2 .ensures,
+      c4 .slice-range .ensures,
     )
     (ap (λ b. unless (not b) 41 (c6 .args .place)) (sym (meets-append (takes (c6 .args .target) 0) _ _)))
 

@@ -1,5 +1,4 @@
--- Layers of one mip meet exactly where their intervals do.
-use mathlib.Core.Path.{sym}
+-- Layers of one slice of a mip meet exactly where their intervals do.
 use Rattle.laws.proofs.Overlap.{spansMeet, layers-meet}
 use borrow.Author.Needs.{needs}
 use Rattle.views.proofs.overlap.layers_meet.Statement.{statement}
@@ -7,11 +6,7 @@ use Rattle.views.proofs.overlap.layers_meet.Tie as tie
 
 returns : tie.Need-returns
 unfolding spansMeet
-returns c =
-    let c10 = c .before .before .before .before .before .before .before .before .before .before in
-    let a = c10 .args .a in
-    let b = c10 .args .b in
-    sym (layers-meet (a .texture) (a .mip) (a .layer) (a .layers) (b .texture) (b .mip) (b .layer) (b .layers))
+returns c = simp layers-meet
 
 pub layers-meet-spec : {M : Type 1} → statement M
 layers-meet-spec =

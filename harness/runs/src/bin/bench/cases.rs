@@ -102,7 +102,7 @@ fn session_pair(files: &[Vec<u8>]) -> Pair {
 fn comparable(seed: u64, count: usize) -> Vec<Vec<u8>> {
     let mut prng = Prng::new(seed);
     let withheld = |bytes: &[u8]| {
-        let rows = oracle::run(bytes).unwrap_or_default();
+        let rows = model::run(bytes).unwrap_or_default();
         rows.iter().any(|row| row.reply.withheld())
     };
     std::iter::repeat_with(|| random::session(&mut prng).to_bytes())
@@ -134,6 +134,7 @@ pub fn reading() -> impl Iterator<Item = (String, usize, Pair)> {
     let files = [
         ("document 01's example", text::document_01()),
         ("64 textures, 256 views, 100 passes", longest().to_bytes()),
+        ("56 volumes of 15 mips", volumes().to_bytes()),
     ];
     files.into_iter().map(|(name, file)| {
         let ours = || {
@@ -181,6 +182,7 @@ fn kinds() -> impl Iterator<Item = (&'static str, Session)> {
     let kinds = [
         ("one colour, Clear, Store", by_passes(1)),
         ("one colour, Load, Store", loading()),
+        ("one slice, Load, Store", slice()),
         ("depth-stencil and one colour", depth_and_colour()),
         ("17 attachments", wide(1)),
         ("one colour, longest session", longest()),
@@ -312,6 +314,33 @@ fn loading() -> Session {
     let mut session = by_passes(1);
     session.passes[0].slots[0].load = LOAD;
     session
+}
+
+/// A pass that loads the last slice of a volume.
+fn slice() -> Session {
+    let mut session = loading();
+    session.textures[0] = VOLUME;
+    session.views[0].dimension = D3;
+    session.passes[0].slots[0].slice_given = 1;
+    session.passes[0].slots[0].slice = MAX_LAYERS - 1;
+    session
+}
+
+/// The deepest 3D texture, with the most mips.
+const VOLUME: Texture = Texture {
+    dimension: 3,
+    depth_or_layers: MAX_LAYERS,
+    mips: MAX_MIPS,
+    ..PLAIN_TEXTURE
+};
+
+/// As many of them as a session can have, and no more rows.
+fn volumes() -> Session {
+    let most = MAX_SURFACES / reader::surfaces_of(&VOLUME);
+    Session {
+        textures: vec![VOLUME; most as usize],
+        ..Session::new()
+    }
 }
 
 /// One texture, so many views, ten passes over the last of them.
