@@ -8,7 +8,7 @@ use native.Mathlib.Omega.{arith}
 use lib.Dec.{ltb}
 use lib.ListN.{length}
 use borrow.Author.Tests.{lt-ltb, le-ltb, eqb-true}
-use Rattle.definition.specs.Sizes.{maxDiscards, maxActions, surfaceNumbers, actionNumbers}
+use Rattle.definition.specs.Sizes.{maxActions, surfaceNumbers, actionNumbers}
 use Rattle.definition.specs.Session.{session}
 use Rattle.definition.specs.Readable.{sessionRefusal}
 use Rattle.definition.specs.Verdict.{nowhere, isFine, refusedAt}

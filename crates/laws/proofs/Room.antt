@@ -21,7 +21,7 @@ use Rattle.definition.specs.declared.Surface.{Surface}
 use Rattle.definition.specs.declared.MemoryInitKind.{MemoryInitKind}
 use Rattle.definition.specs.declared.MemoryInitKind.the-variants.{ImplicitlyInitialized, NeedsInitializedMemory}
 use Rattle.laws.specs.Room.{reaches, reached, Separate, held, entered, listedBy, listedByAll}
-use Rattle.laws.proofs.Tests.{and-left, and-right, or-off-left, or-off-right}
+use Rattle.laws.proofs.Tests.{and-left, and-right}
 use Rattle.laws.proofs.Lists.{retain-append, retain-most, matching-others}
 use Rattle.laws.proofs.Surfaces.{retain-none}
 
@@ -108,7 +108,7 @@ retain-more f g (x ∷ a) = go (f x) (g x) (retain-more f g a)
 abbrev awaited : List Attached → Lists → ℕ
 awaited xs l = length (retain (λ s. reached s xs) (l .discards))
 
--- A registration moves discards that it reaches to the clears, or drops them, and adds an action and one for each that it moves.
+-- A registration moves discards that it reaches to the clears, or drops them.
 register-clears : (x : Attached) (xs : List Attached) (l : Lists)
     → length (registered (rangeIn x) (kindOf x) l .clears) + awaited xs (registered (rangeIn x) (kindOf x) l) ≤ length (l .clears) + awaited (x ∷ xs) l
 unfolding registerInitAction
@@ -125,29 +125,6 @@ register-clears x xs l = go (kindOf x)
     go (some NeedsInitializedMemory) = omega (arith, length-append (l .clears) (matching r (l .discards)), retain-either (hits r) f (l .discards))
     go (some ImplicitlyInitialized) = omega (arith, retain-either (hits r) f (l .discards))
 
-register-actions : (x : Attached) (xs : List Attached) (l : Lists)
-    → length (registered (rangeIn x) (kindOf x) l .actions) + awaited xs (registered (rangeIn x) (kindOf x) l) ≤ length (l .actions) + 1 + awaited (x ∷ xs) l
-unfolding registerInitAction
-register-actions x xs l = go (kindOf x)
-  where
-    r : Range
-    r = rangeIn x
-
-    f : Surface → Bool
-    f s = reached s xs
-
-    go : (k : Option MemoryInitKind) → length (registered r k l .actions) + awaited xs (registered r k l) ≤ length (l .actions) + 1 + awaited (x ∷ xs) l
-    go none = omega (arith, retain-more (hits r) f (l .discards))
-    go (some NeedsInitializedMemory) =
-        omega (
-          arith,
-          length-append (l .actions) (record { range = r; kind = NeedsInitializedMemory } ∷ map implicitAt (matching r (l .discards))),
-          length-map (matching r (l .discards)) implicitAt,
-          retain-either (hits r) f (l .discards),
-        )
-    go (some ImplicitlyInitialized) =
-        omega (arith, length-append (l .actions) (record { range = r; kind = ImplicitlyInitialized } ∷ []), retain-either (hits r) f (l .discards))
-
 -- What a discard lists no later one reaches.
 discard-awaited : (r : Range) (b : Bool) (xs : List Attached) (l : Lists) → ((s : Surface) → elem s (named r) ≡ true → reached s xs ≡ false)
     → awaited xs (discarded r b l) ≡ awaited xs l
@@ -161,10 +138,6 @@ discard-clears : (r : Range) (b : Bool) (l : Lists) → length (discarded r b l 
 discard-clears r true l = refl
 discard-clears r false l = refl
 
-discard-actions : (r : Range) (b : Bool) (l : Lists) → length (discarded r b l .actions) ≡ length (l .actions)
-discard-actions r true l = refl
-discard-actions r false l = refl
-
 -- A pass returns what was listed before it and it reaches, and registers an action for each of these and one an attachment.
 all-clears : (xs : List Attached) (l : Lists) → Separate xs → length (attachAll xs l .clears) ≤ length (l .clears) + awaited xs l
 all-clears [] l sep = omega arith
@@ -177,35 +150,9 @@ all-clears (x ∷ xs) l sep =
       register-clears x xs l,
     )
 
-all-actions : (xs : List Attached) (l : Lists) → Separate xs → length (attachAll xs l .actions) ≤ length (l .actions) + length xs + awaited xs l
-all-actions [] l sep = omega arith
-all-actions (x ∷ xs) l sep =
-    omega (
-      arith,
-      all-actions xs (attach x l) (sep .2),
-      discard-actions (rangeIn x) (discards x) (registered (rangeIn x) (kindOf x) l),
-      discard-awaited (rangeIn x) (discards x) xs (registered (rangeIn x) (kindOf x) l) (λ s e. sep .0 s (sep .1 s e)),
-      register-actions x xs l,
-    )
-
 -- So no more clears than discards before it.
 pub clears-most : (xs : List Attached) (l : Lists) → Separate xs → length (attachAll xs l .clears) ≤ length (l .clears) + length (l .discards)
 clears-most xs l sep = omega (arith, all-clears xs l sep, retain-most (λ s. reached s xs) (l .discards))
-
-pub actions-most : (xs : List Attached) (l : Lists) → Separate xs → length (attachAll xs l .actions) ≤ length (l .actions) + length xs + length (l .discards)
-actions-most xs l sep = omega (arith, all-actions xs l sep, retain-most (λ s. reached s xs) (l .discards))
-
--- The first attachments of such a pass.
-reached-first : (xs ys : List Attached) (s : Surface) → reached s (xs ++ ys) ≡ false → reached s xs ≡ false
-reached-first [] ys s h = refl
-reached-first (x ∷ xs) ys s h = go (reaches x s) (or-off-left (reaches x s) (reached s (xs ++ ys)) h) (reached-first xs ys s (or-off-right (reaches x s) (reached s (xs ++ ys)) h))
-  where
-    go : (b : Bool) → b ≡ false → reached s xs ≡ false → (b || reached s xs) ≡ false
-    go b e ih = ap (λ q. q || reached s xs) e ∙ ih
-
-pub separate-first : (xs ys : List Attached) → Separate (xs ++ ys) → Separate xs
-separate-first [] ys sep = tt
-separate-first (x ∷ xs) ys sep = (λ s h. reached-first xs ys s (sep .0 s h), sep .1, separate-first xs ys (sep .2))
 
 -- ── what a pass lists
 

@@ -3,13 +3,12 @@ use mathlib.Core.Path.{_≡_, refl, sym, ap, ap₂, _∙_}
 use mathlib.Core.Bool.{Bool, true, false, not, _&&_, _||_, cond}
 use mathlib.Core.List.{List, [], _∷_, _++_, map}
 use mathlib.Core.Option.{none, some}
-use Prim.Native.Nat.{ℕ, zero, suc, _≤_}
+use Prim.Native.Nat.{ℕ, zero, suc}
 use lib.Dec.{leb, ltb}
-use borrow.Author.Tests.{leb-true}
-use Rattle.definition.specs.Sizes.{maxSlots, maxSurfaces}
+use Rattle.definition.specs.Sizes.{maxSlots}
 use Rattle.definition.specs.Formats.{isColor}
 use Rattle.definition.specs.Surfaces.{elem, meets}
-use Rattle.definition.specs.Session.{Pass, Session, isNone, strict, surfaceCount, formatOf, textureFormat, attachedSlice, sliceRange, isD3, transient}
+use Rattle.definition.specs.Session.{Pass, Session, isNone, strict, formatOf, textureFormat, attachedSlice, sliceRange, isD3, transient}
 use Rattle.definition.specs.Verdict.{resolveAt, atDepthStencil, nowhere, fine, isFine, refusedAt, _then_, unless}
 use Rattle.definition.specs.Readable.{viewsRight, channelReads, depthStencilReads, resolveReads, slotReads, slotsRead, passReads}
 use Rattle.definition.specs.Channel.{ignores, keepOf, transientOps}
@@ -30,7 +29,6 @@ use Rattle.laws.proofs.Lists.{map-append}
 use Rattle.laws.proofs.Overlap.{apart-elem}
 use Rattle.laws.proofs.Verdicts.{then-left, then-right, unless-on}
 use Rattle.laws.proofs.Folds.{next-fine, next-refused}
-use Rattle.laws.proofs.Places.{surfaces-counted}
 use Rattle.noninterference.specs.Memory.{usesOf, slotSlices, slotsSlices, passSlices}
 use Rattle.noninterference.proofs.Plans.{plannedUse}
 use Rattle.laws.specs.Surfaces.{RangeInside}

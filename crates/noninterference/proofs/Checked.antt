@@ -4,9 +4,9 @@ use mathlib.Core.Path.{_≡_, refl, sym, ap, ap₂, subst, _∙_}
 use mathlib.Core.Bool.{Bool, true, false, not, _&&_, _||_, cond}
 use mathlib.Core.List.{List, [], _∷_, _++_}
 use mathlib.Core.Option.{Option, none, some}
-use Prim.Native.Nat.{ℕ, _+_, _-_, _<_, _≤_}
+use Prim.Native.Nat.{ℕ, _+_, _-_, _<_}
 use native.Mathlib.Omega.{arith}
-use lib.Dec.{leb, ltb, eqb}
+use lib.Dec.{ltb, eqb}
 use lib.Ieee.{Float}
 use borrow.Author.Tests.{eqb-true, ltb-true}
 use Rattle.definition.specs.Formats.{isColor, isDepthStencil, aspects, hasDepth, hasStencil}
@@ -28,7 +28,7 @@ use Rattle.definition.specs.declared.Seen.{Seen}
 use Rattle.definition.specs.declared.Surface.{Surface}
 use Rattle.laws.specs.Surfaces.{RangeInside}
 use Rattle.laws.specs.Views.{ValidView}
-use Rattle.laws.proofs.Tests.{clash, and-left, and-right, and-on, not-off}
+use Rattle.laws.proofs.Tests.{clash, and-on, not-off}
 use Rattle.laws.proofs.Formats.{color-depth, color-stencil, depth-color, fits-color, fits-aspects}
 use Rattle.laws.proofs.Surfaces.{hits-in, layers-all, named-one}
 use Rattle.laws.proofs.Verdicts.{then-left, then-right, unless-on}

@@ -13,7 +13,7 @@ use session::surfaces::surfaces_in;
 use session::texture;
 use wire::u32_at;
 ghost use mathlib.Core.Path.{_≡_};
-ghost use Prim.Native.Nat.{ℕ, _+_, _*_, _≤_, _<_};
+ghost use Prim.Native.Nat.{_+_, _≤_, _<_};
 ghost use lib.ListN.{length};
 ghost use Rattle.definition.specs.Sizes.{maxSurfaces, surfaceNumbers, actionNumbers, listBytes};
 ghost use Rattle.definition.specs.Session.{session, surfaceCount, surfaceIndex, surfacesOf};
