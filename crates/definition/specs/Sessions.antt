@@ -7,9 +7,9 @@ use lib.ListN.{length, replicate}
 use Rattle.definition.specs.Sizes.{noView}
 use Rattle.definition.specs.Formats.{withColor}
 use Rattle.definition.specs.Surfaces.{surfaceAt, rangeAt}
-use Rattle.definition.specs.Session.{session, surfaceCount}
+use Rattle.definition.specs.Session.{session, surfaceCount, surfaceIndex}
 use Rattle.definition.specs.Verdict.{refusedAt}
-use Rattle.definition.specs.Calls.{noEntries, lentRight, passCall}
+use Rattle.definition.specs.Calls.{noEntries, surfaceRight, rangeRight, lentRight, passCall}
 use Rattle.definition.specs.declared.Surface.{Surface}
 use Rattle.definition.specs.declared.Range.{Range}
 use Rattle.definition.specs.declared.MemoryInitKind.the-variants.{NeedsInitializedMemory}
@@ -174,6 +174,22 @@ slices-apart = refl
 slices-counted : surfaceCount (session (file 8 0 0 (texture 3 3 4 32 15 1 16 ∷ plain ∷ []) [] [])) ≡ 73
 unfolding computing
 slices-counted = refl
+
+-- Where the bytes of a volume stand, behind a texture of one: a depth of 5 with three mips has 5 + 2 + 1 slices, so that slice 1 of mip 1 is byte 1 + 5 + 1 and the last is byte 8. Slice 2 is one of mip 0 and
+-- not of mip 1, nor of both mips; slice 1 is, and layer 1 is not.
+abbrev volumeFile : List ℕ
+volumeFile = file 8 0 0 (plain ∷ texture 3 3 4 5 3 1 16 ∷ []) [] []
+
+slices-placed : (surfaceIndex (session volumeFile) (surfaceAt 1 0 0 0) ∷ surfaceIndex (session volumeFile) (surfaceAt 1 1 0 1) ∷ surfaceIndex (session volumeFile) (surfaceAt 1 2 0 0) ∷ [])
+    ≡ (1 ∷ 7 ∷ 8 ∷ [])
+unfolding computing
+slices-placed = refl
+
+slices-lent : (surfaceRight (session volumeFile) (surfaceAt 1 0 0 2) ∷ surfaceRight (session volumeFile) (surfaceAt 1 1 0 2) ∷ surfaceRight (session volumeFile) (surfaceAt 1 0 1 0)
+    ∷ rangeRight (session volumeFile) (rangeAt 1 0 2 0 1 1) ∷ rangeRight (session volumeFile) (rangeAt 1 0 2 0 1 2) ∷ [])
+    ≡ (true ∷ false ∷ false ∷ true ∷ false ∷ [])
+unfolding computing
+slices-lent = refl
 
 -- View 0 has four samples, the others one. Source of one sample (42), formats 3 and 5 (43), a target that is not resolvable (44), transient (45), 3D (48),
 -- the source itself (41 at place 8); and one that is accepted, with the source's samples.

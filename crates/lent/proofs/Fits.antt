@@ -11,7 +11,8 @@ use Rattle.definition.specs.declared.Texture.{Texture}
 use Rattle.definition.specs.declared.Surface.{Surface}
 use Rattle.definition.specs.declared.Range.{Range}
 use Rattle.readable.specs.Valid.{Valid}
-use Rattle.lent.specs.Right.{RowsInside, surfaceFits, rangeFits}
+use Rattle.session.specs.Rows.{RowsInside}
+use Rattle.lent.specs.Right.{surfaceFits, rangeFits}
 
 module _ (S : Session) where
   pub surface-right : (s : Surface) {b : Bool} → ltb (s .texture) (S .textureCount) ≡ b → (b && surfaceFits (S .texture (s .texture)) s) ≡ surfaceRight S s

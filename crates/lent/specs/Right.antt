@@ -4,7 +4,7 @@ use mathlib.Core.Bool.{Bool, _&&_}
 use mathlib.Core.List.{List}
 use lib.Dec.{leb, ltb}
 use lib.ListN.{length}
-use Rattle.definition.specs.Sizes.{headerBytes, textureBytes, maxSurfaces, maxDiscards, maxActions, maxClears, discardsBytes, actionsBytes, clearsBytes}
+use Rattle.definition.specs.Sizes.{maxSurfaces, maxDiscards, maxActions, maxClears, discardsBytes, actionsBytes, clearsBytes}
 use Rattle.definition.specs.Session.{Session, arrayLayers, slicesIn}
 use Rattle.definition.specs.Calls.{State, lentRight}
 use Rattle.definition.specs.declared.Texture.{Texture}
@@ -13,10 +13,6 @@ use Rattle.definition.specs.declared.Range.{Range}
 use Rattle.memory_init.specs.declared.Counts.{Counts}
 use Rattle.memory_init.specs.Lent.{held}
 use Rattle.lent.specs.Packed.{countIn}
-
--- The first n texture rows lie inside.
-abbrev pub RowsInside : ℕ → List ℕ → Type 0
-RowsInside n s = headerBytes + textureBytes * n ≤ length s
 
 -- What number 6 asks of a surface and of a range, past the number of their texture.
 abbrev pub surfaceFits : Texture → Surface → Bool

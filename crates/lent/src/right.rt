@@ -7,12 +7,10 @@ use definition::Surface;
 use definition::Texture;
 use definition::sizes::ACTION_BYTES;
 use definition::sizes::COUNT_BYTES;
-use definition::sizes::HEADER_BYTES;
 use definition::sizes::MAX_ACTIONS;
 use definition::sizes::MAX_CLEARS;
 use definition::sizes::MAX_DISCARDS;
 use definition::sizes::SURFACE_BYTES;
-use definition::sizes::TEXTURE_BYTES;
 use memory_init::Counts;
 use records::decode_kind;
 use records::layers_of;
@@ -21,6 +19,7 @@ use session::formats::mip_size;
 use session::header::texture_count;
 use session::surfaces::ends_by;
 use session::surfaces::surfaces_in;
+use session::texture_inside;
 use wire::u32_at;
 use wire::u32_inside;
 ghost use mathlib.Core.Path.{_≡_};
@@ -34,7 +33,8 @@ ghost use Rattle.definition.specs.Calls.{surfaceRight, rangeRight, surfacesRigh
 ghost use Rattle.records.specs.Lent.{surfaces, actions, surfaceIn, actionIn};
 ghost use Rattle.lent.specs.Numbers.{numbersAt};
 ghost use Rattle.lent.specs.Packed.{numbersIn};
-ghost use Rattle.lent.specs.Right.{RowsInside, surfaceFits, rangeFits, countsFit, countsIn, right, Long};
+ghost use Rattle.session.specs.Rows.{RowsInside};
+ghost use Rattle.lent.specs.Right.{surfaceFits, rangeFits, countsFit, countsIn, right, Long};
 
 // The mip has so many layers from the first on, and the slice. A 3D texture has one layer, any other one slice.
 fn reaches(t: Texture, mip: u32, layer: u32, layers: u32, slice: u32) -> bool
@@ -61,24 +61,6 @@ fn range_fits(t: Texture, x: Range) -> bool
         return false;
     }
     (1 <= x.layers) & reaches(t, x.mip + x.mips - 1, x.layer, x.layers, x.slice)
-}
-
-// Texture row k, which lies inside.
-fn texture_inside(s: &[u8], k: u32) -> Texture
-    requires { ⌜ RowsInside (k + 1) (now s) ⌝ }
-    ensures { λ r. ⌜ r ≡ session (now (s .entry)) .texture k ⌝ }
-{
-    let at = HEADER_BYTES + TEXTURE_BYTES * (k as usize);
-    Texture {
-        format: u32_inside(s, at),
-        dimension: u32_inside(s, at + 4),
-        width: u32_inside(s, at + 8),
-        height: u32_inside(s, at + 12),
-        depth: u32_inside(s, at + 16),
-        mips: u32_inside(s, at + 20),
-        samples: u32_inside(s, at + 24),
-        usage: u32_inside(s, at + 28),
-    }
 }
 
 // The session, whose texture rows lie inside, has the surface.

@@ -1,11 +1,31 @@
--- View rows by the textures before them, where the rows of the passes and their slots start, and a slot's views.
-use Prim.Native.Nat.{ℕ, _+_, _*_}
+-- Texture rows, view rows by the textures before them, where the rows of the passes and their slots start, and a slot's views.
+use Prim.Native.Nat.{ℕ, _+_, _*_, _≤_}
 use mathlib.Core.List.{List}
+use lib.ListN.{length}
 use Rattle.definition.specs.Sizes.{headerBytes, textureBytes, viewBytes, passBytes, slotStart, slotBytes}
 use Rattle.definition.specs.Session.{passStart, viewAt}
+use Rattle.definition.specs.declared.Texture.{Texture}
 use Rattle.definition.specs.declared.Slot.{Slot}
 use Rattle.definition.specs.declared.View.{View}
+use Rattle.wire.specs.declared.Eight.{Eight}
 use Rattle.session.specs.declared.SlotViews.{SlotViews}
+
+-- The first n texture rows lie inside.
+abbrev pub RowsInside : ℕ → List ℕ → Type 0
+RowsInside n s = headerBytes + textureBytes * n ≤ length s
+
+-- A texture by the eight numbers of its row.
+abbrev pub textureOf : Eight → Texture
+textureOf row = record {
+  format = row .n0;
+  dimension = row .n1;
+  width = row .n2;
+  height = row .n3;
+  depth = row .n4;
+  mips = row .n5;
+  samples = row .n6;
+  usage = row .n7;
+}
 
 -- View row k, after so many textures.
 abbrev pub viewRow : ℕ → ℕ → ℕ

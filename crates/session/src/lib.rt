@@ -1,5 +1,5 @@
-// The header and rows of a session file, by value. Every byte string and every number has
-// an answer, since a byte past the end reads as 0. No public function has a `requires`.
+// The header and rows of a session file, by value. Every byte string and every number has an answer, since a byte past the end reads as 0;
+// only `texture_inside` and `surfaces::surface_offset` have a `requires`, which their callers know.
 // In `header` its fields, in `derived` and `surfaces` what follows from the rows, in `formats` the formats that they name.
 pub mod derived;
 pub mod formats;
@@ -20,14 +20,16 @@ use definition::sizes::VIEW_BYTES;
 use header::TEXTURE_COUNT;
 use header::VIEW_COUNT;
 use header::texture_count;
+use wire::Eight;
 use wire::eight_at;
+use wire::eight_inside;
 use wire::f64_of_halves;
 use wire::u32_at;
 ghost use mathlib.Core.Path.{_≡_};
 ghost use Prim.Native.Nat.{_+_, _*_, _≤_};
 ghost use Rattle.definition.specs.Session as Se;
 ghost use Rattle.definition.specs.Session.{session};
-ghost use Rattle.session.specs.Rows.{viewRow, viewAfter, shapeOf, passRow, slotRow, viewsOf};
+ghost use Rattle.session.specs.Rows.{RowsInside, textureOf, viewRow, viewAfter, shapeOf, passRow, slotRow, viewsOf};
 
 // The views of a colour slot and the slice of its colour view.
 pub struct SlotViews {
@@ -71,11 +73,10 @@ pub fn pass_start(s: &[u8]) -> usize
     view_start(s) + VIEW_BYTES * (u32_at(s, VIEW_COUNT) as usize)
 }
 
-// Texture row k.
-pub fn texture(s: &[u8], k: u32) -> Texture
-    ensures { λ r. ⌜ r ≡ session (now (s .entry)) .texture k ⌝ }
+// A texture by the eight numbers of its row.
+fn texture_of(row: Eight) -> Texture
+    ensures { λ r. ⌜ r ≡ textureOf row ⌝ }
 {
-    let row = eight_at(s, HEADER_BYTES + TEXTURE_BYTES * (k as usize));
     Texture {
         format: row.n0,
         dimension: row.n1,
@@ -86,6 +87,21 @@ pub fn texture(s: &[u8], k: u32) -> Texture
         samples: row.n6,
         usage: row.n7,
     }
+}
+
+// Texture row k.
+pub fn texture(s: &[u8], k: u32) -> Texture
+    ensures { λ r. ⌜ r ≡ session (now (s .entry)) .texture k ⌝ }
+{
+    texture_of(eight_at(s, HEADER_BYTES + TEXTURE_BYTES * (k as usize)))
+}
+
+// Texture row k, which lies inside.
+pub fn texture_inside(s: &[u8], k: u32) -> Texture
+    requires { ⌜ RowsInside (k + 1) (now s) ⌝ }
+    ensures { λ r. ⌜ r ≡ session (now (s .entry)) .texture k ⌝ }
+{
+    texture_of(eight_inside(s, HEADER_BYTES + TEXTURE_BYTES * (k as usize)))
 }
 
 // Where view row k starts, after so many textures.

@@ -99,7 +99,7 @@ fn eight_across_end(s: &[u8], at: usize) -> Eight
 }
 
 // Eight u32 that lie inside.
-fn eight_inside(s: &[u8], at: usize) -> Eight
+pub fn eight_inside(s: &[u8], at: usize) -> Eight
     requires { ⌜ at + 32 ≤ length (now s) ⌝ }
     ensures { λ r. ⌜ r ≡ eightAt (now (s .entry)) at ⌝ }
 {

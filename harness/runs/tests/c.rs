@@ -39,6 +39,15 @@ fn the_example_prints_document_01s_lines() {
     assert!(!missing.status.success());
 }
 
+/// What `tools/instructions.sh` counts: a session is checked, a refused one is not.
+#[test]
+fn the_program_that_is_counted_checks_a_session() {
+    let program = compiled("instructions");
+    let status = |file: &Path| output(Command::new(&program).arg(file)).status.code();
+    assert_eq!(status(&repository("examples/first.session")), Some(0));
+    assert_eq!(status(&file_of_number(3).unwrap()), Some(1));
+}
+
 /// NULL with length 0, indices of surfaces, two threads at once, and the stack; the program ends with an error where the
 /// header says otherwise.
 #[test]

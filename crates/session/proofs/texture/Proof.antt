@@ -6,13 +6,7 @@ use Rattle.session.proofs.texture.Tie as tie
 
 returns : tie.Need-returns
 unfolding session
-returns c = simp (c .eight-at .ensures)
+returns c = simp (c .texture-of .ensures, c .before .eight-at .ensures)
 
 pub texture-spec : {M : Type 1} → statement M
-texture-spec =
-    tie.close
-    (tie.spec
-    (λ c. search needs)
-    (λ c. search needs)
-    (λ c κs. search needs)
-    returns)
+texture-spec = tie.close (tie.spec (λ c. search needs) (λ c. search needs) (λ c κs. search needs) (λ c κs. search needs) returns)
