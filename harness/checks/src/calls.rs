@@ -1,8 +1,36 @@
 //! One call on guarded copies of lent buffers, and the comparison of two outcomes.
 
+use std::collections::BTreeMap;
+use std::fmt;
+
 use interface::{Desk, Lists};
 
 use crate::guard::{Guarded, Loan};
+
+/// How many calls were made, and how often each number was answered.
+#[derive(Clone, Debug, Default)]
+pub struct Seen {
+    pub calls: u64,
+    pub by_number: BTreeMap<u32, u64>,
+}
+
+impl Seen {
+    /// One call more, with its number.
+    pub fn count(&mut self, number: u32) {
+        self.calls += 1;
+        *self.by_number.entry(number).or_default() += 1;
+    }
+}
+
+impl fmt::Display for Seen {
+    fn fmt(&self, f: &mut fmt::Formatter) -> fmt::Result {
+        writeln!(f, "{}", self.calls)?;
+        for (number, count) in &self.by_number {
+            writeln!(f, "  answered {number}: {count}")?;
+        }
+        Ok(())
+    }
+}
 
 /// A call.
 #[derive(Clone, Copy, Debug, PartialEq, Eq)]

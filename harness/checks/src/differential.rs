@@ -13,7 +13,7 @@ use sessions::reader;
 use sessions::reply::{first_difference, Answer, Judged};
 use sessions::text;
 
-use crate::calls::{difference, make, Call, Outcome};
+use crate::calls::{difference, make, Call, Outcome, Seen};
 use crate::expected::{after_pass, after_submission, answer, reply_record};
 use crate::surfaces;
 use crate::variants;
@@ -24,14 +24,16 @@ use crate::whole;
 pub struct Tally {
     pub answers: Counts,
     /// Calls on lent buffers that were made short or off by one.
-    pub variants: variants::Seen,
+    pub variants: Seen,
     /// Calls for the status byte of a surface.
-    pub surfaces: surfaces::Seen,
+    pub surfaces: Seen,
 }
 
 impl fmt::Display for Tally {
     fn fmt(&self, f: &mut fmt::Formatter) -> fmt::Result {
-        write!(f, "{}{}{}", self.answers, self.variants, self.surfaces)
+        write!(f, "{}", self.answers)?;
+        write!(f, "calls on changed lent buffers {}", self.variants)?;
+        write!(f, "surfaces asked for {}", self.surfaces)
     }
 }
 

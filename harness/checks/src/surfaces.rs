@@ -1,33 +1,14 @@
 //! The place of a surface's byte among the status bytes: surfaces of a session, and those just
 //! outside it, against the model.
 
-use std::collections::BTreeMap;
-use std::fmt;
-
 use interface::{Desk, Index, Surface};
 use sessions::random::Prng;
 use sessions::reader::{self, layers, slices};
 use sessions::{Session, Texture};
 
+use crate::calls::Seen;
 use crate::guard::Guarded;
 use crate::reference::Model;
-
-/// How many surfaces were asked for, and how often each number was answered.
-#[derive(Clone, Debug, Default)]
-pub struct Seen {
-    pub calls: u64,
-    pub by_number: BTreeMap<u32, u64>,
-}
-
-impl fmt::Display for Seen {
-    fn fmt(&self, f: &mut fmt::Formatter) -> fmt::Result {
-        writeln!(f, "surfaces asked for {}", self.calls)?;
-        for (number, count) in &self.by_number {
-            writeln!(f, "  answered {number}: {count}")?;
-        }
-        Ok(())
-    }
-}
 
 /// Most textures of a session whose surfaces are asked for.
 const MOST_TEXTURES: usize = 8;
@@ -39,9 +20,7 @@ pub fn hold(desk: &dyn Desk, bytes: &[u8], prng: &mut Prng, seen: &mut Seen) -> 
         Err(_) => vec![Surface::default()],
     };
     for surface in surfaces {
-        let number = one(desk, bytes, &surface)?.number;
-        seen.calls += 1;
-        *seen.by_number.entry(number).or_default() += 1;
+        seen.count(one(desk, bytes, &surface)?.number);
     }
     Ok(())
 }

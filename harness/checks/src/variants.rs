@@ -2,8 +2,7 @@
 //! one, and on slices at the bounds of mips. The model says what each should answer; a refusal leaves
 //! every byte.
 
-use std::collections::{BTreeMap, BTreeSet};
-use std::fmt;
+use std::collections::BTreeSet;
 
 use interface::{action_fields, surface_fields, u32_at, Action, Desk, Kind, Lists, Surface};
 use interface::{ACTIONS_LEN, CLEARS_LEN, DISCARDS_LEN, STATUS_LEN};
@@ -12,25 +11,8 @@ use sessions::layout::{FIELD_LEN, SURFACE_FIELDS};
 use sessions::random::Prng;
 use sessions::{damage, reader, Session};
 
-use crate::calls::{difference, make, Call};
+use crate::calls::{difference, make, Call, Seen};
 use crate::reference::Model;
-
-/// How many such calls were made, and how often each number was answered.
-#[derive(Clone, Debug, Default)]
-pub struct Seen {
-    pub calls: u64,
-    pub by_number: BTreeMap<u32, u64>,
-}
-
-impl fmt::Display for Seen {
-    fn fmt(&self, f: &mut fmt::Formatter) -> fmt::Result {
-        writeln!(f, "calls on changed lent buffers {}", self.calls)?;
-        for (number, count) in &self.by_number {
-            writeln!(f, "  answered {number}: {count}")?;
-        }
-        Ok(())
-    }
-}
 
 /// Most records that are changed at one point of a session.
 const MOST_RECORDS: usize = 16;
@@ -93,8 +75,7 @@ fn one(
 ) -> Result<(), String> {
     let expected = make(&Model, bytes, call, lists).expect("the model keeps to the interface");
     let got = make(desk, bytes, call, lists)?;
-    seen.calls += 1;
-    *seen.by_number.entry(expected.number()).or_default() += 1;
+    seen.count(expected.number());
     match difference(&expected, &got) {
         None => Ok(()),
         Some(wrong) => Err(format!("{call:?}\n{wrong}")),
