@@ -2,7 +2,7 @@
 # crates/*/proofs, the code, and docs/DEFINITION.md. Prints the three promises with their places, the theorems about columns, and what they rest on. A line that starts
 # with 'FAILED: ' says what does not hold.
 
-# The file of a module of specs/, as of Rattle.lent.specs.State; of any other module nothing.
+# The file of a module of specs/, as of Rattle.lists.specs.Lists; of any other module nothing.
 function file_of(module,    crate, path) {
     if (module !~ /^Rattle·/ || module !~ /\.specs\./) return ""
     sub(/^Rattle·/, "", module)
@@ -149,7 +149,7 @@ FILENAME ~ /\.rt$/ {
         sub(/.* /, "", name)
         exported = $0 ~ /^pub extern "C" fn /
         handed = FILENAME ~ /^crates\/columns\// && $0 ~ /^pub fn /
-        if (exported || handed || FILENAME ~ /^crates\/(print|deskcheck|column_files)\//) {
+        if (exported || handed || FILENAME ~ /^crates\/(report|deskcheck|column_files)\//) {
             function_at = FILENAME SUBSEP name
             functions[++contracts] = function_at
             line_of[function_at] = FNR
@@ -207,7 +207,7 @@ END {
         cites(part[1], contract[f])
         if (!is_exported[f] && !is_handed[f]) {
             follow()
-            if (!(("crates/print/specs/Output.antt", "output") in seen)) continue
+            if (!(("crates/report/specs/Output.antt", "output") in seen)) continue
             restart()
             cites(part[1], contract[f])
         }

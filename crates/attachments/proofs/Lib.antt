@@ -1,3 +1,3 @@
 pub mod DepthStencil
-pub mod Slots
+pub mod Resolving
 pub mod Plans

@@ -3,17 +3,12 @@ use mathlib.Core.Path.{_≡_}
 use mathlib.Core.Bool.{true, false}
 use mathlib.Core.List.{List, [], _∷_}
 use Rattle.definition.specs.Session.{Session}
-use Rattle.definition.specs.MemoryInit.{Lists, applyPlan}
 use Rattle.definition.specs.Attachments.{Attached, rangeIn, kindOf, discards, divergentOf}
 use Rattle.definition.specs.Pass.{black, zero32, attachmentReply, depthReadOnly, stencilReadOnly}
 use Rattle.definition.specs.declared.Attachment.{Attachment}
-use Rattle.memory_init.specs.Lent.{initKind}
-use Rattle.attachments.specs.declared.Planned.{Planned}
+use Rattle.memory_init.specs.declared.Planned.{Planned}
+use Rattle.memory_init.specs.Plans.{initKind}
 use Rattle.attachments.specs.declared.DepthStencilPart.{DepthStencilPart}
-
--- What a plan makes of the lists.
-abbrev pub planned : Planned → Lists → Lists
-planned p l = applyPlan (p .range) (initKind (p .kind)) (p .discards) l
 
 -- p is what the attachment x does to the lists.
 pub record PlannedAs (p : Planned) (x : Attached) : Type 0 where

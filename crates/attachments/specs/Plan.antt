@@ -8,7 +8,7 @@ use Rattle.definition.specs.Channel.{Ops, loads, sameLoad}
 use Rattle.definition.specs.Attachments.{regularKind, depthStencilKind, depthStencilDiscards, depthStencilDivergent}
 use Rattle.definition.specs.declared.MemoryInitKind.{MemoryInitKind}
 use Rattle.definition.specs.declared.MemoryInitKind.the-variants.{ImplicitlyInitialized, NeedsInitializedMemory}
-use Rattle.memory_init.specs.Lent.{initKind}
+use Rattle.memory_init.specs.Plans.{initKind}
 use Rattle.attachments.specs.declared.plan.Plan.{Plan}
 
 abbrev pub plans : Plan → Option MemoryInitKind → Bool → ℕ → Type 0

@@ -1,7 +1,8 @@
 // The attachments of a pass, each alone: what it does to the lists and what it replies (RenderPassInfo::start, finish).
-// In `plan`: the action, the discard and the divergent aspect by its operations alone.
+// In `plan`: the action, the discard and the divergent aspect by its operations alone; in `resolve` all attachments, in one walk.
 // Every function is total, and its contract is an equation with the definition, under the translations of specs/.
 pub mod plan;
+pub mod resolve;
 
 use channel::color::black;
 use channel::color::ops_of;
@@ -14,6 +15,7 @@ use depth_stencil::depth::depth_resolved;
 use depth_stencil::stencil::ResolvedStencil;
 use depth_stencil::stencil::stencil_resolved;
 use memory_init::InitKind;
+use memory_init::Planned;
 use plan::COLOR_TARGET;
 use plan::NO_ASPECT;
 use plan::color_plan;
@@ -42,13 +44,6 @@ ghost use Rattle.definition.specs.declared.Range as Ra;
 ghost use Rattle.depth_stencil.specs.Depth as De;
 ghost use Rattle.depth_stencil.specs.Stencil as St;
 ghost use Rattle.attachments.specs.Attached.{PlannedAs, Present, Absent, PartOf, blank};
-
-// What an attachment does to the lists: of its surfaces, the action that it registers and whether it lists a discard.
-pub struct Planned {
-    pub range: Range,
-    pub kind: InitKind,
-    pub discards: bool,
-}
 
 // The depth-stencil attachment of a pass, if it has one: what it does to the lists, what it replies, which channels it
 // only reads, and the aspect that is cleared after the pass.
@@ -158,24 +153,29 @@ fn depth_stencil_of(
     }
 }
 
+// A plan that does nothing.
+pub fn no_plan() -> Planned {
+    Planned {
+        range: Range {
+            texture: 0,
+            mip: 0,
+            mips: 0,
+            layer: 0,
+            layers: 0,
+            slice: 0,
+        },
+        kind: InitKind::None,
+        discards: false,
+    }
+}
+
 // No depth-stencil attachment.
 fn no_depth_stencil() -> DepthStencilPart
     ensures { λ r. ⌜ Absent r ⌝ }
 {
     DepthStencilPart {
         present: false,
-        planned: Planned {
-            range: Range {
-                texture: 0,
-                mip: 0,
-                mips: 0,
-                layer: 0,
-                layers: 0,
-                slice: 0,
-            },
-            kind: InitKind::None,
-            discards: false,
-        },
+        planned: no_plan(),
         reply: empty_reply(),
         is_depth_read_only: false,
         is_stencil_read_only: false,

@@ -16,7 +16,7 @@ ghost use Rattle.channel.specs.Color as Co;
 ghost use Rattle.channel.specs.Kind.{operationsIn};
 ghost use Rattle.depth_stencil.specs.Depth as De;
 ghost use Rattle.depth_stencil.specs.Stencil as St;
-ghost use Rattle.memory_init.specs.Lent.{initKind};
+ghost use Rattle.memory_init.specs.Plans.{initKind};
 ghost use Rattle.attachments.specs.Plan.{kindBy, plans, plansRegular, byFirst, plansDiverged, plansDepthStencil, usageBy};
 ghost use Rattle.definition.specs.declared.MemoryInitKind.the-variants.{ImplicitlyInitialized};
 
@@ -62,8 +62,8 @@ fn pick(test: bool, a: u32, b: u32) -> u32
     if test { a } else { b }
 }
 
-// add_pass_texture_init_actions, of operations that load and store so.
-fn init_actions(loads: bool, keeps: bool) -> Plan
+// What operations that load and store so do to the lists: a needed action if they load, else an implicit one if they store; a discard if they do not.
+fn add_pass_texture_init_actions(loads: bool, keeps: bool) -> Plan
     ensures { λ r. ⌜ plans r (kindBy loads keeps) (not keeps) 0 ⌝ }
 {
     let needs = InitKind::Some(MemoryInitKind::NeedsInitializedMemory);
@@ -81,7 +81,7 @@ fn regular_plan(ops: Operations) -> Plan
 {
     let load = ops.load;
     let store = ops.store;
-    init_actions(loads(load), stores(store))
+    add_pass_texture_init_actions(loads(load), stores(store))
 }
 
 // The plan of a colour attachment.

@@ -6,6 +6,11 @@ use crate::Operations;
 use crate::StoreField;
 use crate::check_transient_attachment_ops;
 use definition::Verdict;
+use definition::refusals::CHANNEL_DONT_CARE;
+use definition::refusals::NO_LOAD;
+use definition::refusals::NO_STORE;
+use definition::refusals::READ_ONLY_WITH_LOAD;
+use definition::refusals::READ_ONLY_WITH_STORE;
 use definition::verdicts::AT_DEPTH_STENCIL;
 use definition::verdicts::unless;
 ghost use mathlib.Core.Path.{_≡_};
@@ -39,7 +44,7 @@ fn with_store(load: LoadKind, store: StoreField) -> Answer
     ensures { λ r. ⌜ answerIn r ≡ Ch.withStore (kindIn load) (storeIn store) ⌝ }
 {
     let StoreField::Is(op) = store else {
-        return Answer::Refused(24);
+        return Answer::Refused(NO_STORE);
     };
     Answer::Operational(Operations {
         load: load,
@@ -101,14 +106,14 @@ impl PassChannel {
         let load = self.load;
         let store = self.store;
         let LoadField::Is(op) = load else {
-            return Answer::Refused(20);
+            return Answer::Refused(NO_LOAD);
         };
         match op {
             LoadKind::Load => with_store(LoadKind::Load, store),
             LoadKind::Clear => with_clear(clear, store),
             LoadKind::DontCare => {
                 if strict {
-                    return Answer::Refused(23);
+                    return Answer::Refused(CHANNEL_DONT_CARE);
                 }
                 with_store(LoadKind::DontCare, store)
             }
@@ -120,7 +125,7 @@ impl PassChannel {
         ensures { λ r. ⌜ answerIn r ≡ Ch.resolve (always (handledIn clear)) strict (passIn self) ⌝ }
     {
         if self.readonly {
-            self.without_ops(18, 19)
+            self.without_ops(READ_ONLY_WITH_LOAD, READ_ONLY_WITH_STORE)
         } else {
             self.resolve_ops(clear, strict)
         }

@@ -11,7 +11,7 @@ use lib.Seq.{getD-take}
 use Rattle.definition.specs.Sizes.{totalLengthAt, textureBytes, viewBytes}
 use Rattle.definition.specs.Bytes.{u32At}
 use Rattle.definition.specs.Session.{session, textureCount, viewCount, passCount, textureAt, viewAt, passStart, surfacesBefore}
-use Rattle.definition.specs.Readable.{lengthRight, headerRight, texturesRead, texturesRight, viewRight, viewsRead, viewsRight, sessionVerdict, sessionRefusal}
+use Rattle.definition.specs.Readable.{lengthValid, headerValid, texturesRead, texturesValid, viewValid, firstViewsValid, viewsValid, sessionVerdict, sessionRefusal}
 use Rattle.definition.specs.declared.View.{View}
 
 module _ (s t : List ℕ) (same : take (passStart s) t ≡ take (passStart s) s) where
@@ -72,12 +72,12 @@ module _ (s t : List ℕ) (same : take (passStart s) t ≡ take (passStart s) s)
 
   -- ── the tests of 1 to 4
 
-  length-test : length t ≡ length s → lengthRight t ≡ lengthRight s
-  unfolding lengthRight
+  length-test : length t ≡ length s → lengthValid t ≡ lengthValid s
+  unfolding lengthValid
   length-test e = simp (e, number-same totalLengthAt (omega arith))
 
-  header-test : headerRight t ≡ headerRight s
-  unfolding headerRight
+  header-test : headerValid t ≡ headerValid s
+  unfolding headerValid
   header-test =
       simp (
         number-same 0 (omega arith),
@@ -115,26 +115,26 @@ module _ (s t : List ℕ) (same : take (passStart s) t ≡ take (passStart s) s)
   unfolding session
   all-surfaces = surfaces-same (textureCount s) (omega arith)
 
-  textures-test : texturesRight (session t) ≡ texturesRight (session s)
-  unfolding texturesRight
+  textures-test : texturesValid (session t) ≡ texturesValid (session s)
+  unfolding texturesValid
   textures-test = simp (textures-counted, all-textures, all-surfaces)
 
-  view-test : (v : View) → viewRight (session t) v ≡ viewRight (session s) v
-  unfolding viewRight session
+  view-test : (v : View) → viewValid (session t) v ≡ viewValid (session s) v
+  unfolding viewValid session
   view-test v = go (ltb (v .texture) (textureCount s)) refl
     where
-      go : (b : Bool) → ltb (v .texture) (textureCount s) ≡ b → viewRight (session t) v ≡ viewRight (session s) v
+      go : (b : Bool) → ltb (v .texture) (textureCount s) ≡ b → viewValid (session t) v ≡ viewValid (session s) v
       go true e = simp (textures-same, texture-same (v .texture) (ltb-true (v .texture) (textureCount s) e))
       go false e = simp (textures-same, e)
 
-  views-read : (n : ℕ) → n ≤ viewCount s → viewsRead (session t) n ≡ viewsRead (session s) n
-  unfolding viewsRead
-  views-read zero h = refl
-  views-read (suc n) h = simp (views-read n (omega arith), view-same n (omega arith), view-test)
+  first-views-valid : (n : ℕ) → n ≤ viewCount s → firstViewsValid (session t) n ≡ firstViewsValid (session s) n
+  unfolding firstViewsValid
+  first-views-valid zero h = refl
+  first-views-valid (suc n) h = simp (first-views-valid n (omega arith), view-same n (omega arith), view-test)
 
-  views-test : viewsRight (session t) ≡ viewsRight (session s)
+  views-test : viewsValid (session t) ≡ viewsValid (session s)
   unfolding session
-  views-test = ap (viewsRead (session t)) views-same ∙ views-read (viewCount s) (omega arith)
+  views-test = ap (firstViewsValid (session t)) views-same ∙ first-views-valid (viewCount s) (omega arith)
 
   -- So the refusals are equal.
   same-verdict : length t ≡ length s → sessionVerdict t ≡ sessionVerdict s

@@ -13,12 +13,12 @@ use Rattle.definition.specs.Sizes.{longestSession}
 use Rattle.definition.specs.Session.{session, passCount, passStart}
 use Rattle.definition.specs.Readable.{sessionRefusal}
 use Rattle.laws.proofs.Tests.{cond-on, cond-off, by-order}
-use Rattle.readable.proofs.Valid.{valid-of}
-use Rattle.print.specs.Output.{output}
-use Rattle.print.specs.Held.{Enough, Holds, heldText}
-use Rattle.print.specs.Printed.{Printed}
-use Rattle.print.proofs.Printed.{long-not-readable}
-use Rattle.print.proofs.Held.{held-whole, held-long}
+use Rattle.session_validation.proofs.Valid.{valid-of}
+use Rattle.report.specs.Output.{output}
+use Rattle.report.specs.Held.{Enough, Holds, heldText}
+use Rattle.report.specs.Printed.{Printed}
+use Rattle.report.proofs.Printed.{long-not-readable}
+use Rattle.report.proofs.Held.{held-whole, held-long}
 use Rattle.columns.specs.Columns.{arranged, rearrangeNumber}
 use Rattle.columns.specs.Promise.{Rearranged}
 use Rattle.columns.specs.declared.Way.{Way}
@@ -38,34 +38,34 @@ past-the-end k l = ap (λ (n : ℕ). drop n (drop k l)) (sym (length-drop k l)) 
 -- A session is no longer than the longest.
 pub session-fits : (s : List ℕ) → sessionRefusal s ≡ 0 → length s ≤ longestSession
 unfolding session
-session-fits s fine = let v = valid-of s fine in omega (arith, v .bytes, v .textures, v .views, v .passes)
+session-fits s accepted = let v = valid-of s accepted in omega (arith, v .bytes, v .textures, v .views, v .passes)
 
-module _ (way : Way) (s before : List ℕ) (fine : sessionRefusal s ≡ 0) (room : longestSession ≤ length before) where
+module _ (way : Way) (s before : List ℕ) (accepted : sessionRefusal s ≡ 0) (room : longestSession ≤ length before) where
   -- Its passes are not refused.
   not-refused : (n m k : ℕ) → n ≡ session s .passCount → m ≡ length s - passStart s → m ≤ k → rearrangeNumber n m k ≡ 0
   unfolding session
   not-refused n m k e f g =
-      let v = valid-of s fine in
+      let v = valid-of s accepted in
       fits-number n m k (omega (arith, e, v .passes)) (omega (arith, e, f, v .bytes)) g
 
   module _ {copied after : List ℕ} {n number : ℕ} (c : copied ≡ take (passStart s) s ++ drop (passStart s) before) (counted : n ≡ session s .passCount)
       (r : Rearranged way n (drop (passStart s) s) (drop (passStart s) copied) number after) where
     front : take (passStart s) copied ≡ take (passStart s) s
-    front = ap (take (passStart s)) c ∙ take-at (take (passStart s) s) _ (passStart s) (front-length s fine)
+    front = ap (take (passStart s)) c ∙ take-at (take (passStart s) s) _ (passStart s) (front-length s accepted)
 
     rest : drop (passStart s) copied ≡ drop (passStart s) before
-    rest = ap (drop (passStart s)) c ∙ drop-at (take (passStart s) s) _ (passStart s) (front-length s fine)
+    rest = ap (drop (passStart s)) c ∙ drop-at (take (passStart s) s) _ (passStart s) (front-length s accepted)
 
     zero-number : number ≡ 0
     zero-number =
         r .refusal
         ∙ not-refused n _ _ counted (length-drop (passStart s) s)
-        (omega (arith, length-drop (passStart s) s, ap length rest, length-drop (passStart s) before, session-fits s fine))
+        (omega (arith, length-drop (passStart s) s, ap length rest, length-drop (passStart s) before, session-fits s accepted))
 
     -- What stands behind the session's end.
     behind : drop (length (drop (passStart s) s)) (drop (passStart s) copied) ≡ drop (length s) before
     behind =
-        let e : passStart s + length (drop (passStart s) s) ≡ length s = omega (arith, length-drop (passStart s) s, start-inside s fine) in
+        let e : passStart s + length (drop (passStart s) s) ≡ length s = omega (arith, length-drop (passStart s) s, start-inside s accepted) in
         ap (drop (length (drop (passStart s) s))) rest
         ∙ drop-drop (length (drop (passStart s) s)) (passStart s) before
         ∙ ap (λ (k : ℕ). drop k before) e
@@ -88,14 +88,14 @@ module _ (way : Way) (s before : List ℕ) (fine : sessionRefusal s ≡ 0) (room
 
     printed-session : Printed before (rearranged way s) (putMid (passStart s) (length copied - passStart s) copied after) (length s)
     printed-session = record {
-      front = ap (take (length s)) whole ∙ take-at (rearranged way s) _ (length s) (rearranged-length way s fine);
-      behind = ap (drop (length s)) whole ∙ drop-at (rearranged way s) _ (length s) (rearranged-length way s fine);
+      front = ap (take (length s)) whole ∙ take-at (rearranged way s) _ (length s) (rearranged-length way s accepted);
+      behind = ap (drop (length s)) whole ∙ drop-at (rearranged way s) _ (length s) (rearranged-length way s accepted);
       fits = long;
       counted = simp length-take (omega (arith, long));
     }
       where
         long : length s ≤ length (putMid (passStart s) (length copied - passStart s) copied after)
-        long = omega (arith, ap length whole, length-append (rearranged way s) (drop (length s) before), rearranged-length way s fine)
+        long = omega (arith, ap length whole, length-append (rearranged way s) (drop (length s) before), rearranged-length way s accepted)
 
   -- The same where the start is told, and the front is copied whole.
   pub printed-from : {start n number : ℕ} {copied after : List ℕ} → start ≡ passStart s → n ≡ session s .passCount
@@ -112,7 +112,7 @@ module _ (way : Way) (s before : List ℕ) (fine : sessionRefusal s ≡ 0) (room
       copied-front : take (length (take (passStart s) s)) (take (passStart s) s) ++ drop (length (take (passStart s) s)) before
           ≡ take (passStart s) s ++ drop (passStart s) before
       copied-front =
-          let l = front-length s fine in
+          let l = front-length s accepted in
           ap (λ xs. xs ++ drop (length (take (passStart s) s)) before) (take-all (length (take (passStart s) s)) (take (passStart s) s) (omega arith))
           ∙ ap (λ (k : ℕ). take (passStart s) s ++ drop k before) l
 

@@ -6,8 +6,8 @@ use lib.Dec.{eqb}
 use lib.ListN.{take, drop}
 use Rattle.definition.specs.Session.{passCount, passStart}
 use Rattle.definition.specs.Readable.{sessionRefusal}
-use Rattle.print.specs.Output.{output}
-use Rattle.print.specs.Held.{heldText}
+use Rattle.report.specs.Output.{output}
+use Rattle.report.specs.Held.{heldText}
 use Rattle.columns.specs.Columns.{arranged}
 use Rattle.columns.specs.declared.Way.{Way}
 

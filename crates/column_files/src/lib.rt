@@ -3,10 +3,10 @@
 use bytes::copy;
 use columns::Way;
 use columns::rearrange;
-use print::print_file;
-use readable::session_refusal;
+use report::print_file;
 use session::header::pass_count;
 use session::pass_start;
+use session_validation::session_refusal;
 use streams::Bytes;
 use streams::read_file;
 ghost use mathlib.Core.Path.{_≡_};
@@ -15,8 +15,8 @@ ghost use Prim.Native.Nat.{ℕ, _≤_};
 ghost use lib.ListN.{length, take};
 ghost use Rattle.definition.specs.Sizes.{longestSession};
 ghost use Rattle.definition.specs.Readable.{sessionRefusal};
-ghost use Rattle.print.specs.Held.{Enough, Holds};
-ghost use Rattle.print.specs.Printed.{Printed};
+ghost use Rattle.report.specs.Held.{Enough, Holds};
+ghost use Rattle.report.specs.Printed.{Printed};
 ghost use Rattle.streams.specs.Answered.{Answered};
 ghost use Rattle.column_files.specs.Files.{rearranged, written, heldWritten};
 

@@ -27,41 +27,41 @@ fresh = record { lists = noEntries; status = replicate maxSurfaces 0 }
 
 -- ── 6, after 4: counts, records and status bytes in range
 
-unfoldable pub surfaceRight : Session → Surface → Bool
-surfaceRight S s =
+unfoldable pub surfaceValid : Session → Surface → Bool
+surfaceValid S s =
     ltb (s .texture) (S .textureCount) && ltb (s .mip) (S .texture (s .texture) .mips) && ltb (s .layer) (arrayLayers (S .texture (s .texture)))
     && ltb (s .slice) (slicesIn (S .texture (s .texture)) (s .mip))
 
 -- Its slice is one of each of its mips: of the last, which has the fewest.
-unfoldable pub rangeRight : Session → Range → Bool
-rangeRight S r =
+unfoldable pub rangeValid : Session → Range → Bool
+rangeValid S r =
     ltb (r .texture) (S .textureCount)
     && leb 1 (r .mips) && leb (r .mip + r .mips) (S .texture (r .texture) .mips)
     && leb 1 (r .layers) && leb (r .layer + r .layers) (arrayLayers (S .texture (r .texture)))
     && ltb (r .slice) (slicesIn (S .texture (r .texture)) (r .mip + r .mips - 1))
 
-abbrev pub surfacesRight : Session → List Surface → Bool
-surfacesRight S [] = true
-surfacesRight S (s ∷ rest) = surfaceRight S s && surfacesRight S rest
+abbrev pub surfacesValid : Session → List Surface → Bool
+surfacesValid S [] = true
+surfacesValid S (s ∷ rest) = surfaceValid S s && surfacesValid S rest
 
-abbrev pub actionsRight : Session → List Action → Bool
-actionsRight S [] = true
-actionsRight S (a ∷ rest) = rangeRight S (a .range) && actionsRight S rest
+abbrev pub actionsValid : Session → List Action → Bool
+actionsValid S [] = true
+actionsValid S (a ∷ rest) = rangeValid S (a .range) && actionsValid S rest
 
 -- Of the first n bytes: bytes past the last surface are not tested.
-abbrev pub bytesRight : ℕ → List ℕ → Bool
-bytesRight zero bytes = true
-bytesRight (suc n) [] = false
-bytesRight (suc n) (b ∷ bytes) = leb b 3 && bytesRight n bytes
+abbrev pub bytesValid : ℕ → List ℕ → Bool
+bytesValid zero bytes = true
+bytesValid (suc n) [] = false
+bytesValid (suc n) (b ∷ bytes) = leb b 3 && bytesValid n bytes
 
-unfoldable pub countsRight : Lists → Bool
-countsRight l = leb (length (l .discards)) maxDiscards && leb (length (l .actions)) maxActions && leb (length (l .clears)) maxClears
+unfoldable pub countsValid : Lists → Bool
+countsValid l = leb (length (l .discards)) maxDiscards && leb (length (l .actions)) maxActions && leb (length (l .clears)) maxClears
 
-unfoldable pub lentRight : Session → State → Bool
-lentRight S σ =
-    countsRight (σ .lists)
-    && surfacesRight S (σ .lists .discards) && actionsRight S (σ .lists .actions) && surfacesRight S (σ .lists .clears)
-    && bytesRight (surfaceCount S) (σ .status)
+unfoldable pub lentValid : Session → State → Bool
+lentValid S σ =
+    countsValid (σ .lists)
+    && surfacesValid S (σ .lists .discards) && actionsValid S (σ .lists .actions) && surfacesValid S (σ .lists .clears)
+    && bytesValid (surfaceCount S) (σ .status)
 
 -- ── the calls
 
@@ -104,7 +104,7 @@ notLent (pass i) σ = record { state = σ; answer = checked (refusal (refusedAt 
 notLent submit σ = record { state = σ; answer = submitted 6 (σ .status) }
 
 unfoldable pub call : Session → Call → State → Step
-call S c σ = cond (lentRight S σ) (called S c σ) (notLent c σ)
+call S c σ = cond (lentValid S σ) (called S c σ) (notLent c σ)
 
 -- The calls in order, from the state σ: the answers, and the state that is left.
 abbrev pub answers : Session → List Call → State → List Answer

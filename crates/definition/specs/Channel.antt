@@ -5,7 +5,7 @@ use mathlib.Core.Option.{Option, none, some}
 use lib.Dec.{eqb, ltb}
 use lib.Ieee.{Float, le}
 use Rattle.definition.specs.Bytes.{f32OfBits}
-use Rattle.definition.specs.Verdict.{fine, refusedAt, atDepthStencil, unless}
+use Rattle.definition.specs.Verdict.{accepted, refusedAt, atDepthStencil, unless}
 use Rattle.definition.specs.declared.Verdict.{Verdict}
 use Rattle.definition.specs.declared.Channel.{Channel}
 
@@ -184,7 +184,7 @@ stencilResolved has strict c = cond has (resolveStencil strict c) (resolveAbsent
 
 -- The verdict on a channel, and what it does. (Of a refused one nothing is asked.)
 abbrev pub resolvedVerdict : {X : Type 0} → Resolved X → Verdict
-resolvedVerdict (channel ops) = fine
+resolvedVerdict (channel ops) = accepted
 resolvedVerdict (refused n) = refusedAt n atDepthStencil
 
 abbrev pub resolvedOps : {X : Type 0} → Resolved X → Ops X

@@ -323,10 +323,10 @@ sameRows [] (y ∷ ys) = false
 sameRows (x ∷ xs) [] = false
 sameRows (x ∷ xs) (y ∷ ys) = sameNumbers x y && sameRows xs ys
 
-abbrev allRight : List Row → Bool
-allRight [] = true
-allRight (r ∷ rest) = sameRows (run (desk (r .flags)) (r .calls) (new (desk (r .flags)) (r .held))) (r .answers) && allRight rest
+abbrev allValid : List Row → Bool
+allValid [] = true
+allValid (r ∷ rest) = sameRows (run (desk (r .flags)) (r .calls) (new (desk (r .flags)) (r .held))) (r .answers) && allValid rest
 
-pub corners : allRight rows ≡ true
+pub corners : allValid rows ≡ true
 unfolding rows computing
 corners = refl

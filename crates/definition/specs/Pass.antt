@@ -8,7 +8,7 @@ use lib.Ieee.{Float}
 use Rattle.definition.specs.Sizes.{maxDiscards, maxActions}
 use Rattle.definition.specs.Bytes.{f32OfBits, f64OfBits}
 use Rattle.definition.specs.Session.{Pass, Session, textureBinding, readOnlyDepthStencil}
-use Rattle.definition.specs.Verdict.{nowhere, fine, isFine, _then_, unless}
+use Rattle.definition.specs.Verdict.{nowhere, accepted, isAccepted, _then_, unless}
 use Rattle.definition.specs.Channel.{Ops, loadBits, storeBits, clearValue}
 use Rattle.definition.specs.Check.{check}
 use Rattle.definition.specs.MemoryInit.{Lists}
@@ -114,7 +114,7 @@ refusal v = record {
 
 abbrev pub acceptance : Session → Seen → List Attached → List Surface → Reply
 acceptance S seen xs clears = record {
-  verdict = fine;
+  verdict = accepted;
   width = seen .width;
   height = seen .height;
   samples = seen .samples;
@@ -146,7 +146,7 @@ abbrev pub refusedPass : Verdict → Lists → Outcome
 refusedPass v l = record { reply = refusal v; lists = l }
 
 unfoldable pub outcome : Session → Progress → List Attached → Lists → Outcome
-outcome S a xs l = cond (isFine (passVerdict a xs l)) (acceptedPass S (a .seen) xs l) (refusedPass (passVerdict a xs l) l)
+outcome S a xs l = cond (isAccepted (passVerdict a xs l)) (acceptedPass S (a .seen) xs l) (refusedPass (passVerdict a xs l) l)
 
 unfoldable pub checkPass : Session → Pass → Lists → Outcome
 checkPass S p l = outcome S (check S p) (attachments S p) l

@@ -19,35 +19,35 @@ unfoldable pub between : ℕ → ℕ → ℕ → Bool
 between low high n = leb low n && leb n high
 
 -- 1.
-unfoldable pub lengthRight : List ℕ → Bool
-lengthRight s = leb headerBytes (length s) && eqb (totalLength s) (length s)
+unfoldable pub lengthValid : List ℕ → Bool
+lengthValid s = leb headerBytes (length s) && eqb (totalLength s) (length s)
 
 -- 2.
-unfoldable pub headerRight : List ℕ → Bool
-headerRight s =
+unfoldable pub headerValid : List ℕ → Bool
+headerValid s =
     leb (textureCount s) maxTextures && eqb (textureOffset s) headerBytes
     && leb (viewCount s) maxViews && eqb (viewOffset s) (viewStart s)
     && leb (passCount s) maxPasses && eqb (passOffset s) (passStart s)
     && between 1 maxSlots (maxColors s) && leb (maxMultiview s) maxMultiviews && leb (flags s) maxFlags && between 1 maxColorBytes (colorBytes s)
     && eqb (passEnd s) (totalLength s)
 
-unfoldable pub samplesRight : ℕ → Bool
-samplesRight n = eqb n 1 || eqb n 2 || eqb n 4 || eqb n 8 || eqb n 16
+unfoldable pub samplesValid : ℕ → Bool
+samplesValid n = eqb n 1 || eqb n 2 || eqb n 4 || eqb n 8 || eqb n 16
 
 -- A depth-stencil format needs dimension 2.
-unfoldable pub textureRight : Texture → Bool
-textureRight t =
+unfoldable pub textureValid : Texture → Bool
+textureValid t =
     isFormat (t .format) && between 1 3 (t .dimension) && (isColor (t .format) || eqb (t .dimension) 2)
     && between 1 maxSize (t .width) && between 1 maxSize (t .height) && between 1 maxLayers (t .depth)
-    && between 1 maxMips (t .mips) && samplesRight (t .samples) && leb (t .usage) maxUsage
+    && between 1 maxMips (t .mips) && samplesValid (t .samples) && leb (t .usage) maxUsage
 
 -- 3: each of the first n textures; and all their surfaces.
 unfoldable pub texturesRead : Session → ℕ → Bool
 texturesRead S zero = true
-texturesRead S (suc n) = texturesRead S n && textureRight (S .texture n)
+texturesRead S (suc n) = texturesRead S n && textureValid (S .texture n)
 
-unfoldable pub texturesRight : Session → Bool
-texturesRight S = texturesRead S (S .textureCount) && leb (surfaceCount S) maxSurfaces
+unfoldable pub texturesValid : Session → Bool
+texturesValid S = texturesRead S (S .textureCount) && leb (surfaceCount S) maxSurfaces
 
 -- Each of the first n bits of a is one of b.
 unfoldable pub bitsBelow : ℕ → ℕ → ℕ → Bool
@@ -74,24 +74,24 @@ viewInTexture t v =
     && leb 1 (v .layers) && leb (v .layer + v .layers) (arrayLayers t)
     && usageAmong (v .usage) (t .usage) && leb (v .resolvable) 1 && formatFits (formatOf v) (t .format)
 
-unfoldable pub viewRight : Session → View → Bool
-viewRight S v = ltb (v .texture) (S .textureCount) && viewInTexture (S .texture (v .texture)) v
+unfoldable pub viewValid : Session → View → Bool
+viewValid S v = ltb (v .texture) (S .textureCount) && viewInTexture (S .texture (v .texture)) v
 
 -- 4: each of the first n views.
-unfoldable pub viewsRead : Session → ℕ → Bool
-viewsRead S zero = true
-viewsRead S (suc n) = viewsRead S n && viewRight S (S .view n)
+unfoldable pub firstViewsValid : Session → ℕ → Bool
+firstViewsValid S zero = true
+firstViewsValid S (suc n) = firstViewsValid S n && viewValid S (S .view n)
 
-abbrev pub viewsRight : Session → Bool
-viewsRight S = viewsRead S (S .viewCount)
+abbrev pub viewsValid : Session → Bool
+viewsValid S = firstViewsValid S (S .viewCount)
 
 -- The session's refusal: 1 to 4.
 unfoldable pub sessionVerdict : List ℕ → Verdict
 sessionVerdict s =
-    unless (lengthRight s) 1 nowhere
-    then unless (headerRight s) 2 nowhere
-    then unless (texturesRight (session s)) 3 nowhere
-    then unless (viewsRight (session s)) 4 nowhere
+    unless (lengthValid s) 1 nowhere
+    then unless (headerValid s) 2 nowhere
+    then unless (texturesValid (session s)) 3 nowhere
+    then unless (viewsValid (session s)) 4 nowhere
 
 -- Its number: 0 for none.
 abbrev pub sessionRefusal : List ℕ → ℕ
@@ -121,7 +121,7 @@ slotsRead S p zero = true
 slotsRead S p (suc n) = slotsRead S p n && slotReads S (p .slot n)
 
 -- 5. Slots from the colour count on are not examined.
-unfoldable pub passReads : Session → Pass → Bool
-passReads S p =
+unfoldable pub passValid : Session → Pass → Bool
+passValid S p =
     cond (leb (p .colors) maxSlots) (leb (p .ends) 1 && depthStencilReads S p && slotsRead S p (p .colors))
     false

@@ -9,7 +9,7 @@ use Rattle.definition.specs.Formats.{withColor}
 use Rattle.definition.specs.Surfaces.{surfaceAt, rangeAt}
 use Rattle.definition.specs.Session.{session, surfaceCount, surfaceIndex}
 use Rattle.definition.specs.Verdict.{refusedAt}
-use Rattle.definition.specs.Calls.{noEntries, surfaceRight, rangeRight, lentRight, passCall}
+use Rattle.definition.specs.Calls.{noEntries, surfaceValid, rangeValid, lentValid, passCall}
 use Rattle.definition.specs.declared.Surface.{Surface}
 use Rattle.definition.specs.declared.Range.{Range}
 use Rattle.definition.specs.declared.MemoryInitKind.the-variants.{NeedsInitializedMemory}
@@ -185,8 +185,8 @@ slices-placed : (surfaceIndex (session volumeFile) (surfaceAt 1 0 0 0) ∷ surfa
 unfolding computing
 slices-placed = refl
 
-slices-lent : (surfaceRight (session volumeFile) (surfaceAt 1 0 0 2) ∷ surfaceRight (session volumeFile) (surfaceAt 1 1 0 2) ∷ surfaceRight (session volumeFile) (surfaceAt 1 0 1 0)
-    ∷ rangeRight (session volumeFile) (rangeAt 1 0 2 0 1 1) ∷ rangeRight (session volumeFile) (rangeAt 1 0 2 0 1 2) ∷ [])
+slices-lent : (surfaceValid (session volumeFile) (surfaceAt 1 0 0 2) ∷ surfaceValid (session volumeFile) (surfaceAt 1 1 0 2) ∷ surfaceValid (session volumeFile) (surfaceAt 1 0 1 0)
+    ∷ rangeValid (session volumeFile) (rangeAt 1 0 2 0 1 1) ∷ rangeValid (session volumeFile) (rangeAt 1 0 2 0 1 2) ∷ [])
     ≡ (true ∷ false ∷ false ∷ true ∷ false ∷ [])
 unfolding computing
 slices-lent = refl
@@ -306,7 +306,7 @@ past-the-last = refl
 -- mip 1 are not; a range of the one surface is right, an empty one and one of two layers are not; 80 clears are right, 81 are not; nor is
 -- slice 1, as a surface or a range.
 abbrev lent : List Surface → List Range → List Surface → ℕ → Bool
-lent discards ranges clears byte = lentRight (session example) (record {
+lent discards ranges clears byte = lentValid (session example) (record {
   lists = record { discards = discards; actions = map (λ r. record { range = r; kind = NeedsInitializedMemory }) ranges; clears = clears };
   status = byte ∷ [];
 })

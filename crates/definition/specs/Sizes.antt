@@ -101,49 +101,28 @@ surfaceBytes = 4 * surfaceNumbers
 abbrev pub actionBytes : ℕ
 actionBytes = 4 * actionNumbers
 
--- A list in bytes is its count, and then its records, of k numbers each.
+-- A list in bytes is its count, and then its records, of k bytes each.
 abbrev pub countBytes : ℕ
 countBytes = 4
 
 abbrev pub listBytes : ℕ → ℕ → ℕ
-listBytes k records = countBytes + 4 * (k * records)
+listBytes k records = countBytes + k * records
 
 -- Bytes that are lent for each list with all its room, and for the status bytes.
 abbrev pub discardsBytes : ℕ
-discardsBytes = listBytes surfaceNumbers maxDiscards
+discardsBytes = listBytes surfaceBytes maxDiscards
 
 abbrev pub actionsBytes : ℕ
-actionsBytes = listBytes actionNumbers maxActions
+actionsBytes = listBytes actionBytes maxActions
 
 abbrev pub clearsBytes : ℕ
-clearsBytes = listBytes surfaceNumbers maxClears
-
--- Numbers of the records of each list with all its room.
-abbrev pub discardsNumbers : ℕ
-discardsNumbers = surfaceNumbers * maxDiscards
-
-abbrev pub actionsNumbers : ℕ
-actionsNumbers = actionNumbers * maxActions
-
-abbrev pub clearsNumbers : ℕ
-clearsNumbers = surfaceNumbers * maxClears
+clearsBytes = listBytes surfaceBytes maxClears
 
 -- ── a pass and its reply
 
 -- The most attachments: depth-stencil, and each slot's colour and resolve target.
 abbrev pub maxAttachments : ℕ
 maxAttachments = 1 + 2 * maxSlots
-
--- The most discards that a pass lists: depth-stencil, and each slot's colour.
-abbrev pub maxListed : ℕ
-maxListed = 1 + maxSlots
-
--- The most actions that a pass adds: one an attachment, one for each discard that it finds or lists; and their numbers.
-abbrev pub maxAdded : ℕ
-maxAdded = maxAttachments + maxDiscards + maxListed
-
-abbrev pub addedNumbers : ℕ
-addedNumbers = actionNumbers * maxAdded
 
 -- Numbers and bytes of a pass's row in the reply to a whole session, and bytes of all rows.
 abbrev pub rowNumbers : ℕ
@@ -190,13 +169,7 @@ everySize = record {
   «discards_bytes» = discardsBytes;
   «actions_bytes» = actionsBytes;
   «clears_bytes» = clearsBytes;
-  «discards_numbers» = discardsNumbers;
-  «actions_numbers» = actionsNumbers;
-  «clears_numbers» = clearsNumbers;
   «max_attachments» = maxAttachments;
-  «max_listed» = maxListed;
-  «max_added» = maxAdded;
-  «added_numbers» = addedNumbers;
   «row_numbers» = rowNumbers;
   «row_bytes» = rowBytes;
   «rows_bytes» = rowsBytes;

@@ -15,11 +15,11 @@ atDepthStencil = 16
 abbrev pub nowhere : ℕ
 nowhere = 17
 
-abbrev pub fine : Verdict
-fine = record { number = 0; place = nowhere; earlier = nowhere }
+abbrev pub accepted : Verdict
+accepted = record { number = 0; place = nowhere; earlier = nowhere }
 
-abbrev pub isFine : Verdict → Bool
-isFine v = eqb (v .number) 0
+abbrev pub isAccepted : Verdict → Bool
+isAccepted v = eqb (v .number) 0
 
 abbrev pub refusedAt : ℕ → ℕ → Verdict
 refusedAt n place = record { number = n; place = place; earlier = nowhere }
@@ -30,8 +30,8 @@ v then w = cond (eqb (v .number) 0) w v
 
 -- Number n at the place, where the test fails.
 unfoldable pub unless : Bool → ℕ → ℕ → Verdict
-unless b n place = cond b fine (refusedAt n place)
+unless b n place = cond b accepted (refusedAt n place)
 
 -- The same, compared with the view at an earlier place.
 unfoldable pub unlessAgainst : Bool → ℕ → ℕ → ℕ → Verdict
-unlessAgainst b n place earlier = cond b fine (record { number = n; place = place; earlier = earlier })
+unlessAgainst b n place earlier = cond b accepted (record { number = n; place = place; earlier = earlier })

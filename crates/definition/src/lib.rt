@@ -1,6 +1,7 @@
 // What the desk check answers, as definitions. Everything is in specs/; here are the records that the
 // definitions and the code share, so that a contract needs no translation. Numbers are document 01's.
 // The one code here is in `verdicts`, and is proved as all code is.
+pub mod refusals;
 pub mod sizes;
 pub mod verdicts;
 

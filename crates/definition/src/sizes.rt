@@ -102,26 +102,8 @@ pub const ACTIONS_BYTES: usize = COUNT_BYTES + ACTION_BYTES * MAX_ACTIONS;
 // Bytes that are lent for the clears.
 pub const CLEARS_BYTES: usize = COUNT_BYTES + SURFACE_BYTES * MAX_CLEARS;
 
-// Numbers of all discards that there is room for.
-pub const DISCARDS_NUMBERS: usize = SURFACE_NUMBERS * MAX_DISCARDS;
-
-// Numbers of all actions that there is room for.
-pub const ACTIONS_NUMBERS: usize = ACTION_NUMBERS * MAX_ACTIONS;
-
-// Numbers of all clears that there is room for.
-pub const CLEARS_NUMBERS: usize = SURFACE_NUMBERS * MAX_CLEARS;
-
 // The most attachments of a pass: depth-stencil, and each slot's colour and resolve target.
 pub const MAX_ATTACHMENTS: usize = 1 + 2 * (MAX_SLOTS as usize);
-
-// The most discards that a pass lists: depth-stencil, and each slot's colour.
-const MAX_LISTED: usize = 1 + (MAX_SLOTS as usize);
-
-// The most actions that a pass adds: one an attachment, one for each discard that it finds or lists.
-const MAX_ADDED: usize = MAX_ATTACHMENTS + MAX_DISCARDS + MAX_LISTED;
-
-// Numbers of the most actions that a pass adds.
-pub const ADDED_NUMBERS: usize = ACTION_NUMBERS * MAX_ADDED;
 
 // Numbers of a pass's row in the reply to a whole session.
 pub const ROW_NUMBERS: usize = 9;
@@ -166,13 +148,7 @@ pub struct Sizes {
     pub discards_bytes: usize,
     pub actions_bytes: usize,
     pub clears_bytes: usize,
-    pub discards_numbers: usize,
-    pub actions_numbers: usize,
-    pub clears_numbers: usize,
     pub max_attachments: usize,
-    pub max_listed: usize,
-    pub max_added: usize,
-    pub added_numbers: usize,
     pub row_numbers: usize,
     pub row_bytes: usize,
     pub rows_bytes: usize,
@@ -215,13 +191,7 @@ pub fn every_size() -> Sizes
         discards_bytes: DISCARDS_BYTES,
         actions_bytes: ACTIONS_BYTES,
         clears_bytes: CLEARS_BYTES,
-        discards_numbers: DISCARDS_NUMBERS,
-        actions_numbers: ACTIONS_NUMBERS,
-        clears_numbers: CLEARS_NUMBERS,
         max_attachments: MAX_ATTACHMENTS,
-        max_listed: MAX_LISTED,
-        max_added: MAX_ADDED,
-        added_numbers: ADDED_NUMBERS,
         row_numbers: ROW_NUMBERS,
         row_bytes: ROW_BYTES,
         rows_bytes: ROWS_BYTES,

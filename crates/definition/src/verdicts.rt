@@ -13,8 +13,8 @@ pub const NOWHERE: u32 = 17;
 pub const AT_DEPTH_STENCIL: u32 = 16;
 
 // Accepted.
-pub fn fine() -> Verdict
-    ensures { λ r. ⌜ r ≡ D.fine ⌝ }
+pub fn accepted() -> Verdict
+    ensures { λ r. ⌜ r ≡ D.accepted ⌝ }
 {
     Verdict {
         number: 0,
@@ -24,8 +24,8 @@ pub fn fine() -> Verdict
 }
 
 // Whether nothing is refused.
-pub fn is_fine(v: Verdict) -> bool
-    ensures { λ r. ⌜ r ≡ D.isFine v ⌝ }
+pub fn is_accepted(v: Verdict) -> bool
+    ensures { λ r. ⌜ r ≡ D.isAccepted v ⌝ }
 {
     v.number == 0
 }
@@ -45,7 +45,7 @@ pub fn refused_at(n: u32, place: u32) -> Verdict
 pub fn unless(ok: bool, n: u32, place: u32) -> Verdict
     ensures { λ r. ⌜ r ≡ D.unless ok n place ⌝ }
 {
-    either(ok, fine(), refused_at(n, place))
+    either(ok, accepted(), refused_at(n, place))
 }
 
 // The same, compared with the view at an earlier place.
@@ -54,7 +54,7 @@ pub fn unless_against(ok: bool, n: u32, place: u32, earlier: u32) -> Verdict
 {
     either(
         ok,
-        fine(),
+        accepted(),
         Verdict {
             number: n,
             place: place,
@@ -67,7 +67,7 @@ pub fn unless_against(ok: bool, n: u32, place: u32, earlier: u32) -> Verdict
 pub fn then(v: Verdict, w: Verdict) -> Verdict
     ensures { λ r. ⌜ r ≡ (v then w) ⌝ }
 {
-    either(is_fine(v), w, v)
+    either(is_accepted(v), w, v)
 }
 
 // v where the test holds, else w.

@@ -12,10 +12,13 @@ use channel::pass::PassChannel;
 use channel::store_field;
 use definition::Channel;
 use definition::Verdict;
+use definition::refusals::CLEAR_VALUE_OUT_OF_RANGE;
+use definition::refusals::DEPTH_OPS_WITHOUT_ASPECT;
+use definition::refusals::NO_CLEAR_VALUE;
 use definition::verdicts::AT_DEPTH_STENCIL;
-use definition::verdicts::fine;
+use definition::verdicts::accepted;
 use definition::verdicts::refused_at;
-use wire::f32_of_bits;
+use encoding::f32_of_bits;
 ghost use mathlib.Core.Path.{_≡_};
 ghost use Rattle.definition.specs.Bytes.{f32OfBits};
 ghost use Rattle.definition.specs.Channel as Ch;
@@ -118,10 +121,10 @@ fn handle_clear(is_given: bool, x: f32) -> Handled
         if in_range(x) {
             Handled::Value
         } else {
-            Handled::Refusal(22)
+            Handled::Refusal(CLEAR_VALUE_OUT_OF_RANGE)
         }
     } else {
-        Handled::Refusal(21)
+        Handled::Refusal(NO_CLEAR_VALUE)
     }
 }
 
@@ -220,7 +223,11 @@ impl DepthChannel {
     {
         let x = self.clear_value();
         let handled = handle_clear(self.given, x);
-        with_answer(self.asked().resolve(has, 25, handled, strict), x)
+        with_answer(
+            self.asked()
+                .resolve(has, DEPTH_OPS_WITHOUT_ASPECT, handled, strict),
+            x,
+        )
     }
 }
 
@@ -237,7 +244,7 @@ impl DepthAnswer {
         ensures { λ r. ⌜ r ≡ Ch.resolvedVerdict (answerIn self) ⌝ }
     {
         match self {
-            DepthAnswer::Channel(_) => fine(),
+            DepthAnswer::Channel(_) => accepted(),
             DepthAnswer::Refused(n) => refused_at(n, AT_DEPTH_STENCIL),
         }
     }

@@ -12,8 +12,9 @@ use channel::pass::PassChannel;
 use channel::store_field;
 use definition::Channel;
 use definition::Verdict;
+use definition::refusals::STENCIL_OPS_WITHOUT_ASPECT;
 use definition::verdicts::AT_DEPTH_STENCIL;
-use definition::verdicts::fine;
+use definition::verdicts::accepted;
 use definition::verdicts::refused_at;
 ghost use mathlib.Core.Path.{_≡_};
 ghost use mathlib.Core.Option.{some};
@@ -214,7 +215,11 @@ impl StencilChannel {
         ensures { λ r. ⌜ answerIn r ≡ resolvedFor Ch.handleStencil 26 has strict (channelIn self) ⌝ }
     {
         let x = handle_clear(self.given, self.clear_value());
-        with_answer(self.asked().resolve(has, 26, Handled::Value, strict), x)
+        with_answer(
+            self.asked()
+                .resolve(has, STENCIL_OPS_WITHOUT_ASPECT, Handled::Value, strict),
+            x,
+        )
     }
 }
 
@@ -231,7 +236,7 @@ impl StencilAnswer {
         ensures { λ r. ⌜ r ≡ Ch.resolvedVerdict (answerIn self) ⌝ }
     {
         match self {
-            StencilAnswer::Channel(_) => fine(),
+            StencilAnswer::Channel(_) => accepted(),
             StencilAnswer::Refused(n) => refused_at(n, AT_DEPTH_STENCIL),
         }
     }

@@ -7,10 +7,18 @@ use channel::store_op;
 use definition::Channel;
 use definition::Slot;
 use definition::Verdict;
+use definition::refusals::COLOR_DONT_CARE;
+use definition::refusals::INVALID_DEPTH_STENCIL_FORMAT;
+use definition::refusals::INVALID_TRANSIENT_DEPTH_OPS;
+use definition::refusals::INVALID_TRANSIENT_OP;
+use definition::refusals::INVALID_TRANSIENT_STENCIL_OPS;
+use definition::refusals::READ_ONLY_TRANSIENT_DEPTH;
+use definition::refusals::READ_ONLY_TRANSIENT_STENCIL;
+use definition::refusals::TOO_MANY;
 use definition::verdicts::AT_DEPTH_STENCIL;
 use definition::verdicts::NOWHERE;
+use definition::verdicts::accepted;
 use definition::verdicts::either;
-use definition::verdicts::fine;
 use definition::verdicts::refused_at;
 use definition::verdicts::then;
 use definition::verdicts::unless;
@@ -38,21 +46,24 @@ fn slot_ops(s: &[u8], c: Slot, k: u32) -> Verdict
     ensures { λ r. ⌜ r ≡ Ck.slotOps (session (now (s .entry))) c k ⌝ }
 {
     if is_none(c.view) {
-        return fine();
+        return accepted();
     }
     let load = load_kind(c.load);
     let store = store_op(c.store);
     let cared = !(ignores(load) & strict(s));
     let lasting = !transient(view(s, c.view));
     let passing = check_transient_attachment_ops(load, store);
-    then(unless(cared, 11, k), unless(lasting | passing, 12, k))
+    then(
+        unless(cared, COLOR_DONT_CARE, k),
+        unless(lasting | passing, INVALID_TRANSIENT_OP, k),
+    )
 }
 
 // Of the first n slots, in order.
 fn color_ops(s: &[u8], pass: u32, n: u32) -> Verdict
     ensures { λ r. ⌜ r ≡ Ck.colorOps (session (now (s .entry))) (session (now (s .entry)) .pass pass) n ⌝ }
 {
-    let mut judged = fine();
+    let mut judged = accepted();
     let mut k = 0u32;
     while k < n {
         judged = then(judged, slot_ops(s, slot(s, pass, k), k));
@@ -73,16 +84,24 @@ fn channel_ops(
 {
     let has_depth = has_depth(format);
     let has_stencil = has_stencil(format);
-    let aspects = unless(is_depth_stencil(format), 13, AT_DEPTH_STENCIL);
+    let aspects = unless(
+        is_depth_stencil(format),
+        INVALID_DEPTH_STENCIL_FORMAT,
+        AT_DEPTH_STENCIL,
+    );
     let passing_depth = either(
         transient & has_depth,
-        depth_channel(depth).asked().check_transient(14, 15),
-        fine(),
+        depth_channel(depth)
+            .asked()
+            .check_transient(INVALID_TRANSIENT_DEPTH_OPS, READ_ONLY_TRANSIENT_DEPTH),
+        accepted(),
     );
     let passing_stencil = either(
         transient & has_stencil,
-        stencil_channel(stencil).asked().check_transient(16, 17),
-        fine(),
+        stencil_channel(stencil)
+            .asked()
+            .check_transient(INVALID_TRANSIENT_STENCIL_OPS, READ_ONLY_TRANSIENT_STENCIL),
+        accepted(),
     );
     let depth_ops = depth_resolved(has_depth, strict, depth).verdict();
     let stencil_ops = stencil_resolved(has_stencil, strict, stencil).verdict();
@@ -99,7 +118,7 @@ fn depth_stencil_ops(s: &[u8], pass: u32) -> Verdict
 {
     let k = depth_stencil(s, pass);
     if is_none(k) {
-        return fine();
+        return accepted();
     }
     let v = view(s, k);
     channel_ops(
@@ -117,7 +136,7 @@ pub fn fill_arc_desc(s: &[u8], pass: u32) -> Verdict
 {
     let n = colors(s, pass);
     if n > max_colors(s) {
-        return refused_at(10, NOWHERE);
+        return refused_at(TOO_MANY, NOWHERE);
     }
     then(color_ops(s, pass, n), depth_stencil_ops(s, pass))
 }

@@ -3,4 +3,5 @@ pub mod Calls
 pub mod Passed
 pub mod Sent
 pub mod Whole
+pub mod Attached
 pub mod EntryPoints

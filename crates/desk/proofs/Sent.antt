@@ -1,33 +1,25 @@
 -- What a submission leaves in the lent bytes: everything where it is refused, else no entries and the status bytes that it makes.
-use mathlib.Core.Path.{_≡_, refl, sym, ap, subst, _∙_}
+use mathlib.Core.Path.{_≡_, refl, sym, ap, _∙_}
 use mathlib.Core.Logic.{_≢_}
 use mathlib.Core.Bool.{true, false}
 use mathlib.Core.List.{List, []}
-use Prim.Native.Nat.{ℕ, _*_, _≤_}
+use Prim.Native.Nat.{ℕ, _≤_}
 use native.Mathlib.Omega.{arith}
 use native.Mathlib.Nat.{le-refl}
-use lib.ListN.{length, drop}
-use Rattle.definition.specs.Sizes.{countBytes, surfaceNumbers, actionNumbers}
-use Rattle.definition.specs.Session.{session, surfacesOf}
+use lib.ListN.{length}
+use Rattle.definition.specs.Sizes.{maxSurfaces, surfaceBytes, actionBytes}
+use Rattle.definition.specs.Session.{session, surfaceCount, surfacesOf}
 use Rattle.definition.specs.Readable.{sessionRefusal}
 use Rattle.definition.specs.Submission.{submitBytes}
-use Rattle.definition.specs.Calls.{submit, Step, lentRight}
-use Rattle.laws.specs.Records.{records}
-use Rattle.wire.specs.Writing.{putNumber}
-use Rattle.wire.proofs.Writing.{put-read}
-use Rattle.memory_init.specs.declared.Counts.{Counts}
-use Rattle.memory_init.specs.Lent.{Within}
-use Rattle.records.specs.Lent.{surfaces, actions}
-use Rattle.lent.specs.Numbers.{numbersAt}
-use Rattle.lent.specs.Packed.{countIn}
-use Rattle.lent.specs.Right.{countsIn}
-use Rattle.lent.specs.State.{surfacesIn, actionsIn}
-use Rattle.lent.proofs.Numbers.{number-past}
-use Rattle.lent.proofs.Packing.{not-short}
-use Rattle.readable.proofs.Valid.{valid-of}
+use Rattle.definition.specs.Calls.{submit, Step, lentValid}
+use Rattle.session_validation.proofs.Valid.{valid-of}
+use Rattle.lists.specs.Lists.{surfaceOf, actionOfBytes, surfacesIn, actionsIn, CountSet}
+use Rattle.lists.proofs.Lists.{emptied}
+use Rattle.buffer_validation.specs.Buffers.{Buffers, buffers, heldIn, tooShort}
+use Rattle.buffer_validation.proofs.Fits.{rows-inside}
+use Rattle.buffer_validation.proofs.Right.{long-of, status-long, records-inside, valid-fits, valid-surfaces, valid-actions}
 use Rattle.submission.specs.Runs.{Submits}
-use Rattle.submission.proofs.Lent.{right-submits}
-use Rattle.desk.specs.Entry.{Buffers, buffers, heldIn, tooShort, numberIn, entry, Opened}
+use Rattle.desk.specs.Entry.{numberIn, entry, Opened}
 use Rattle.desk.specs.Promise.{SubmitPromise}
 use Rattle.desk.proofs.Calls.{entry-short, entry-refused, entry-called, entry-not-lent}
 
@@ -47,55 +39,55 @@ module _ (s : List ℕ) (b : Buffers) (n : ℕ) where
     bytes = refl;
   }
 
+  -- A buffer that is too short.
   pub sent-short : tooShort b ≡ true → n ≡ 6 → SubmitPromise s b n b
   sent-short h e = stays _ (entry-short s submit b h) refl e
 
+  -- A session that is refused.
   pub sent-refused : tooShort b ≡ false → n ≢ 0 → n ≡ sessionRefusal s → SubmitPromise s b n b
   sent-refused h g e = stays _ (entry-refused s submit b h (λ z. g (e ∙ z))) refl e
 
-  pub sent-not-lent : Opened s b → lentRight (session s) (heldIn b) ≡ false → n ≡ 6 → SubmitPromise s b n b
+  -- Number 6 of what is lent.
+  pub sent-not-lent : Opened s b → lentValid (session s) (heldIn b) ≡ false → n ≡ 6 → SubmitPromise s b n b
   sent-not-lent o h e = stays _ (entry-not-lent s submit b o h) refl e
 
 -- ── a submission
 
--- A count of 0 leaves no record.
-none-listed : (b : List ℕ) → countBytes ≤ length b → (surfacesIn (putNumber 4 b 0 0) ≡ []) × (actionsIn (putNumber 4 b 0 0) ≡ [])
-unfolding records
-none-listed b h =
-    let e : countIn (putNumber 4 b 0 0) ≡ 0 = sym (put-read b 0 0 h (omega arith)) in
-    (ap (λ n. surfaces n (numbersAt (putNumber 4 b 0 0) countBytes (surfaceNumbers * n))) e, ap (λ n. actions n (numbersAt (putNumber 4 b 0 0) countBytes (actionNumbers * n))) e)
-
--- Nothing stands before the count.
-rest-stays : (b b′ : List ℕ) → b′ ≡ putNumber 4 b 0 0 → drop countBytes b′ ≡ drop countBytes b
-rest-stays b b′ e = ap (drop countBytes) e ∙ number-past b 0 0 4 countBytes (omega arith)
-
 -- Lists that are right.
-module _ (s d a c b : List ℕ) (opened : Opened s (buffers d a c b)) (right : lentRight (session s) (heldIn (buffers d a c b)) ≡ true) where
+module _ (s d a c b : List ℕ) (opened : Opened s (buffers d a c b)) (right : lentValid (session s) (heldIn (buffers d a c b)) ≡ true) where
   -- They can be submitted.
-  pub sent-submits : (n : Counts) → n ≡ countsIn d a c → Within n → Submits (session s) d a b
-  sent-submits n counts few =
+  pub sent-submits : Submits s d a b
+  sent-submits =
+      let S = session s in
+      let lent = buffers d a c b in
       let valid = valid-of s (opened .readable) in
-      let long = not-short d a c b (opened .long) in
-      let within : Within (countsIn d a c) = subst Within counts few in
-      right-submits (session s) d a c b right (valid .textures) (valid .surfaces (session s .textureCount) (le-refl (session s .textureCount)))
-      (long .status) (omega (arith, long .discards, within .discards)) (omega (arith, long .actions, within .actions))
+      let inside = records-inside (lent .lists) (long-of lent (opened .long)) (valid-fits S (heldIn lent) right) in
+      let few : surfaceCount S ≤ maxSurfaces = valid .surfaces (S .textureCount) (le-refl (S .textureCount)) in
+      record {
+        rows = rows-inside s valid;
+        textures = valid .textures;
+        surfaces = few;
+        status = omega (arith, few, status-long lent (opened .long));
+        discards-long = inside .discards;
+        actions-long = inside .actions;
+        discards = valid-surfaces S (heldIn lent) right;
+        actions = valid-actions S (heldIn lent) right;
+      }
 
-  -- The counts are written, and the status bytes are the submission's.
-  pub sent-all : (d′ a′ b′ : List ℕ) → d′ ≡ putNumber 4 d 0 0 → a′ ≡ putNumber 4 a 0 0
-      → b′ ≡ submitBytes (actionsIn a) (surfacesIn d) (surfacesOf (session s)) b
+  -- The counts are set to 0, and the status bytes are the submission's.
+  pub sent-all : (d′ a′ b′ : List ℕ) → CountSet 0 d d′ → CountSet 0 a a′ → b′ ≡ submitBytes (actionsIn a) (surfacesIn d) (surfacesOf (session s)) b
       → length d′ ≡ length d → length a′ ≡ length a → length b′ ≡ length b → SubmitPromise s (buffers d a c b) 0 (buffers d′ a′ c b′)
   sent-all d′ a′ b′ ed ea eb nd na nb =
-      let long = not-short d a c b (opened .long) in
-      let no-discards : surfacesIn d′ ≡ [] = ap surfacesIn ed ∙ none-listed d (omega (arith, long .discards)) .0 in
-      let no-actions : actionsIn a′ ≡ [] = ap actionsIn ea ∙ none-listed a (omega (arith, long .actions)) .1 in
+      let no-discards : surfacesIn d′ ≡ [] = emptied {k = surfaceBytes} {decode = surfaceOf} ed .list in
+      let no-actions : actionsIn a′ ≡ [] = emptied {k = actionBytes} {decode = actionOfBytes} ea .list in
       let step = entry-called s submit (buffers d a c b) opened right in
       record {
         number = ap (λ (q : Step). numberIn (q .answer)) (sym step);
         state = (λ q. record { lists = record { discards = no-discards q; actions = no-actions q; clears = surfacesIn c }; status = eb q })
             ∙ ap (λ (q : Step). q .state) (sym step);
         refused = λ g. absurd (g refl);
-        discards = rest-stays d d′ ed;
-        actions = rest-stays a a′ ea;
+        discards = ed .behind;
+        actions = ea .behind;
         clears = refl;
         lengths = record { discards = nd; actions = na; clears = refl };
         bytes = nb;

@@ -13,7 +13,8 @@ use Rattle.definition.specs.Readable.{sessionRefusal}
 use Rattle.definition.specs.Calls.{noEntries}
 use Rattle.definition.specs.Program.{lines, deskcheck}
 use Rattle.laws.proofs.Tests.{cond-on, cond-off}
-use Rattle.rows.specs.Rows.{rowsIn}
+use Rattle.whole_session.specs.Rows.{rowsIn, firstRows}
+use Rattle.whole_session.proofs.Rows.{rows-all}
 use Rattle.desk.specs.Whole.{wholeNumber, WholePromise}
 
 -- What `deskcheck` says of a readable session.
@@ -22,6 +23,7 @@ unfolding deskcheck
 deskcheck-read s h = cond-on (eqb (sessionRefusal s) 0) _ _ (eq-eqb (sessionRefusal s) 0 h)
 
 module _ (s b : List ℕ) where
+  -- Rows that are too short.
   pub whole-short : length b < rowsBytes → WholePromise s b 6 b
   whole-short h = record {
     number = sym (cond-on (ltb (length b) rowsBytes) _ _ (lt-ltb (length b) rowsBytes h));
@@ -33,14 +35,16 @@ module _ (s b : List ℕ) where
   long : rowsBytes ≤ length b → wholeNumber s b ≡ sessionRefusal s
   long h = cond-off (ltb (length b) rowsBytes) _ _ (le-ltb (length b) rowsBytes h)
 
+  -- A session that is refused.
   pub whole-refused : (n : ℕ) → rowsBytes ≤ length b → n ≢ 0 → n ≡ sessionRefusal s → WholePromise s b n b
   whole-refused n h g e = record { number = e ∙ sym (long h); rows = λ z. absurd (g z); refused = λ _. refl }
 
+  -- A session that is read: every pass has its row.
   pub whole-read : (b′ : List ℕ) → rowsBytes ≤ length b → sessionRefusal s ≡ 0
-      → rowsIn b′ (session s .passCount) ≡ lines (session s) 0 (session s .passCount) noEntries
+      → rowsIn b′ (session s .passCount) ≡ firstRows (session s) (session s .passCount) (session s .passCount)
       → drop (rowBytes * session s .passCount) b′ ≡ drop (rowBytes * session s .passCount) b → WholePromise s b 0 b′
   whole-read b′ h g rows rest = record {
     number = sym (long h ∙ g);
-    rows = λ _. record { lines = rows ∙ sym (deskcheck-read s g); rest = rest };
+    rows = λ _. record { lines = rows ∙ rows-all (session s) (session s .passCount) ∙ sym (deskcheck-read s g); rest = rest };
     refused = λ z. absurd (z refl);
   }

@@ -1,48 +1,15 @@
--- What a caller lends, and a call at an entry point: a short buffer is 6 first of all, then the session's own refusal, then the call.
+-- A call at an entry point: a short buffer is 6 first of all, then the session's own refusal, then the call.
 use Prim.Native.Nat.{ℕ}
 use mathlib.Core.List.{List}
-use mathlib.Core.Bool.{Bool, false, cond}
+use mathlib.Core.Bool.{false, cond}
 use mathlib.Core.Path.{_≡_}
 use lib.Dec.{eqb}
 use Rattle.definition.specs.Session.{session}
 use Rattle.definition.specs.Readable.{sessionRefusal}
 use Rattle.definition.specs.Verdict.{nowhere, refusedAt}
-use Rattle.definition.specs.MemoryInit.{Lists}
 use Rattle.definition.specs.Pass.{refusal}
 use Rattle.definition.specs.Calls.{State, Call, pass, submit, Answer, checked, submitted, Step, call}
-use Rattle.lent.specs.State.{surfacesIn, actionsIn, short}
-
--- ── what is lent
-
--- The bytes of the three lists.
-pub record ListBytes : Type 0 where
-  pub discards : List ℕ
-  pub actions : List ℕ
-  pub clears : List ℕ
-
--- All four buffers.
-pub record Buffers : Type 0 where
-  pub lists : ListBytes
-  pub status : List ℕ
-
-abbrev pub listBuffers : (discards actions clears : List ℕ) → ListBytes
-listBuffers d a c = record { discards = d; actions = a; clears = c }
-
-abbrev pub buffers : (discards actions clears status : List ℕ) → Buffers
-buffers d a c status = record { lists = listBuffers d a c; status = status }
-
--- What they hold.
-abbrev pub listsIn : ListBytes → Lists
-listsIn l = record { discards = surfacesIn (l .discards); actions = actionsIn (l .actions); clears = surfacesIn (l .clears) }
-
-abbrev pub heldIn : Buffers → State
-heldIn b = record { lists = listsIn (b .lists); status = b .status }
-
--- One of them is too short.
-abbrev pub tooShort : Buffers → Bool
-tooShort b = short (b .lists .discards) (b .lists .actions) (b .lists .clears) (b .status)
-
--- ── a call
+use Rattle.buffer_validation.specs.Buffers.{Buffers, heldIn, tooShort}
 
 -- Refused as n: everything stays as found.
 abbrev pub refusedCall : ℕ → Call → State → Step

@@ -4,8 +4,8 @@ use mathlib.Core.Bool.{cond}
 use Rattle.definition.specs.Verdict.{nowhere, refusedAt}
 use Rattle.definition.specs.Pass.{refusal}
 use Rattle.definition.specs.Calls.{Answer, checked, submitted}
-use Rattle.render.specs.declared.PassReply.{PassReply}
-use Rattle.render.specs.Outcome.{replied}
+use Rattle.render_pass.specs.declared.PassReply.{PassReply}
+use Rattle.render_pass.specs.Outcome.{replied}
 use Rattle.desk.specs.declared.reply.Reply.{Reply}
 
 -- Flags are 1 or 0.

@@ -10,7 +10,7 @@ use Rattle.definition.specs.Sizes.{rowBytes, rowsBytes}
 use Rattle.definition.specs.Session.{session}
 use Rattle.definition.specs.Readable.{sessionRefusal}
 use Rattle.definition.specs.Program.{deskcheck}
-use Rattle.rows.specs.Rows.{rowsIn}
+use Rattle.whole_session.specs.Rows.{rowsIn}
 
 -- 6 for rows that are too short for every session, first of all; then the session's refusal.
 abbrev pub wholeNumber : List ℕ → List ℕ → ℕ

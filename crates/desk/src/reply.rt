@@ -1,9 +1,9 @@
 // The reply to one pass as C callers see it: numbers, and attachments in as many records as a pass has at most.
+use attachments::resolve::no_attachments;
 use definition::Attachment;
 use definition::sizes::MAX_ATTACHMENTS;
 use definition::verdicts::NOWHERE;
-use render::PassReply;
-use render::replies::no_attachments;
+use render_pass::PassReply;
 ghost use mathlib.Core.Path.{_≡_};
 ghost use mathlib.Core.Bool.{cond};
 ghost use Prim.Native.Nat.{_≤_};

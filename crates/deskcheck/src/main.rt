@@ -1,15 +1,15 @@
 // `deskcheck`: reads a session from standard input and prints its lines, or its refusal, to standard output.
 // All between reading and writing (`streams`) is proved.
-use print::PRINTED_BYTES;
-use print::print_file;
+use report::PRINTED_BYTES;
+use report::print_file;
 use streams::Bytes;
 use streams::read_file;
 use streams::write_text;
 ghost use Prim.Native.Nat.{_≤_};
 ghost use lib.ListN.{length};
-ghost use Rattle.print.specs.Text.{printedBytes};
-ghost use Rattle.print.specs.Output.{output};
-ghost use Rattle.print.specs.Held.{heldText};
+ghost use Rattle.report.specs.Text.{printedBytes};
+ghost use Rattle.report.specs.Output.{output};
+ghost use Rattle.report.specs.Held.{heldText};
 ghost use Rattle.streams.specs.Answered.{Answered};
 
 // The text for the input; 0 bytes where reading failed.

@@ -1,4 +1,4 @@
--- Compaction in place: what is kept so far is what `retain` keeps of the records read so far, and what is not yet read stands as it stood.
+-- Compaction in place: what is kept so far is what `retain` keeps of the records read so far, and past that every number stands as it stood.
 use Prim.Native.Nat.{ℕ, _+_, _*_, _≤_, _<_, zero-le}
 use native.Mathlib.Omega.{arith}
 use mathlib.Core.Path.{_≡_, refl, sym, ap, _∙_, transport}
@@ -6,9 +6,9 @@ use mathlib.Core.Bool.{Bool, true, false}
 use mathlib.Core.List.{List, [], _∷_, _++_}
 use lib.ListN.{length, drop}
 use Rattle.definition.specs.MemoryInit.{retain}
-use Rattle.laws.specs.Records.{recordAt, records, Retained}
+use Rattle.laws.specs.Records.{recordAt, records, Written, Retained}
 use Rattle.laws.proofs.Lists.{retain-yes, retain-no}
-use Rattle.laws.proofs.Records.{retain-read, record-same, past-more, Written, write-appends, write-spares}
+use Rattle.laws.proofs.Records.{retain-read, record-same, past-more, write-appends, write-spares}
 
 -- i of the n records are read, and `kept` of them stand in front.
 pub record Compacting {A : Type 0} (k : ℕ) (decode : List ℕ → A) (p : A → Bool) (n : ℕ) (l₀ l : List ℕ) (kept i : ℕ) : Type 0 where
@@ -16,7 +16,7 @@ pub record Compacting {A : Type 0} (k : ℕ) (decode : List ℕ → A) (p : A �
   pub behind : kept ≤ i
   pub long : length l ≡ length l₀
   pub first : records k decode kept l ≡ retain p (records k decode i l₀)
-  pub rest : drop (k * i) l ≡ drop (k * i) l₀
+  pub rest : drop (k * kept) l ≡ drop (k * kept) l₀
 
 module _ {A : Type 0} {k : ℕ} {decode : List ℕ → A} {p : A → Bool} {n : ℕ} {l₀ : List ℕ} where
   pub compact-start : Compacting k decode p n l₀ l₀ 0 0
@@ -26,7 +26,7 @@ module _ {A : Type 0} {k : ℕ} {decode : List ℕ → A} {p : A → Bool} {n : 
   -- A turn reads the record s and asks b of it.
   module _ {l : List ℕ} {kept i : ℕ} (g : Compacting k decode p n l₀ l kept i) (more : i < n) {s : A} (read : s ≡ recordAt k decode i l) {b : Bool} (asked : b ≡ p s) where
     further : retain p (records k decode (i + 1) l₀) ≡ retain p (records k decode i l₀ ++ (s ∷ []))
-    further = retain-read k decode p i l₀ s (read ∙ record-same k decode i l₀ l (g .rest))
+    further = retain-read k decode p i l₀ s (read ∙ record-same k decode i l₀ l (past-more k decode kept i l₀ l (g .behind) (g .rest)))
 
     keeps : (l′ : List ℕ) → b ≡ true → Written k decode kept s l l′ → Compacting k decode p n l₀ l′ (kept + 1) (i + 1)
     keeps l′ h w = record {
@@ -34,7 +34,7 @@ module _ {A : Type 0} {k : ℕ} {decode : List ℕ → A} {p : A → Bool} {n : 
       behind = omega (arith, g .behind);
       long = w .long ∙ g .long;
       first = write-appends k decode kept s l l′ w ∙ ap (λ x. x ++ (s ∷ [])) (g .first) ∙ sym (further ∙ retain-yes p (records k decode i l₀) s (sym asked ∙ h));
-      rest = write-spares k decode kept s l l′ w (i + 1) (omega (arith, g .behind)) ∙ past-more k decode i (i + 1) l₀ l (omega arith) (g .rest);
+      rest = write-spares k decode kept s l l′ w (kept + 1) (omega arith) ∙ past-more k decode kept (kept + 1) l₀ l (omega arith) (g .rest);
     }
 
     passes : b ≡ false → Compacting k decode p n l₀ l kept (i + 1)
@@ -43,7 +43,7 @@ module _ {A : Type 0} {k : ℕ} {decode : List ℕ → A} {p : A → Bool} {n : 
       behind = omega (arith, g .behind);
       long = g .long;
       first = g .first ∙ sym (further ∙ retain-no p (records k decode i l₀) s (sym asked ∙ h));
-      rest = past-more k decode i (i + 1) l₀ l (omega arith) (g .rest);
+      rest = g .rest;
     }
 
     -- The two ways of a turn, at the values that it leaves.
@@ -53,11 +53,8 @@ module _ {A : Type 0} {k : ℕ} {decode : List ℕ → A} {p : A → Bool} {n : 
     pub compact-passes : {l′ : List ℕ} {kept′ : ℕ} → b ≡ false → l′ ≡ l → kept′ ≡ kept → Compacting k decode p n l₀ l′ kept′ (i + 1)
     compact-passes h el e = transport (λ j. Compacting k decode p n l₀ (sym el j) (sym e j) (i + 1)) (passes h)
 
-  -- All are read: the first are what `retain` keeps, and the numbers past the n records stay.
+  -- All are read: the first are what `retain` keeps, and the numbers past them stay.
   pub compact-done : {l : List ℕ} {kept i : ℕ} → Compacting k decode p n l₀ l kept i → n ≤ i → Retained k decode p n l₀ l kept
-  compact-done {l = l} {i = i} g d =
+  compact-done {i = i} g d =
       let e : i ≡ n = omega (arith, g .within) in
-      record {
-        first = g .first ∙ ap (λ (j : ℕ). retain p (records k decode j l₀)) e;
-        past = ap (λ (j : ℕ). drop (k * j) l) (sym e) ∙ g .rest ∙ ap (λ (j : ℕ). drop (k * j) l₀) e;
-      }
+      record { first = g .first ∙ ap (λ (j : ℕ). retain p (records k decode j l₀)) e; past = g .rest }

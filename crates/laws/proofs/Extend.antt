@@ -7,9 +7,9 @@ use mathlib.Core.Bool.{Bool, true, false}
 use mathlib.Core.List.{List, [], _∷_, _++_, map, map-append, append-assoc, append-nil}
 use lib.ListN.{length, drop, length-append}
 use Rattle.definition.specs.MemoryInit.{retain}
-use Rattle.laws.specs.Records.{recordAt, records, Appended}
+use Rattle.laws.specs.Records.{recordAt, records, Written, Appended}
 use Rattle.laws.proofs.Lists.{retain-append, retain-yes, retain-no}
-use Rattle.laws.proofs.Records.{records-suc, retain-read, past-more, Written, write-appends, write-spares}
+use Rattle.laws.proofs.Records.{records-suc, retain-read, past-more, write-appends, write-spares}
 
 -- More records, more that pass.
 retain-more : {A : Type 0} (p : A → Bool) (xs ys : List A) → length (retain p xs) ≤ length (retain p (xs ++ ys))

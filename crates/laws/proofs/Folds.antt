@@ -9,11 +9,11 @@ use lib.Dec.{leb, eqb}
 use borrow.Author.Tests.{eqb-true, eqb-false, leb-true, leb-false}
 use lib.ListN.{length, drop, getD}
 use Rattle.definition.specs.Session.{Session, Pass, surfacesIn, surfacesBefore}
-use Rattle.definition.specs.Verdict.{isFine}
-use Rattle.definition.specs.Readable.{textureRight, texturesRead, viewRight, viewsRead, slotReads, slotsRead}
+use Rattle.definition.specs.Verdict.{isAccepted}
+use Rattle.definition.specs.Readable.{textureValid, texturesRead, viewValid, firstViewsValid, slotReads, slotsRead}
 use Rattle.definition.specs.Check.{slotTakes, takenBefore, withSlot, sampleBytes, slotStep, nextSlot, slotSteps}
 use Rattle.definition.specs.Attachments.{slotPart, slotParts}
-use Rattle.definition.specs.Calls.{bytesRight}
+use Rattle.definition.specs.Calls.{bytesValid}
 use Rattle.definition.specs.declared.Progress.{Progress}
 use Rattle.laws.proofs.Tests.{and-left, and-right}
 use Rattle.laws.proofs.Lists.{drop-turn}
@@ -51,37 +51,37 @@ pub textures-none : (S : Session) → texturesRead S 0 ≡ true
 unfolding texturesRead
 textures-none S = refl
 
-pub textures-turn : (S : Session) (n : ℕ) → texturesRead S (n + 1) ≡ (texturesRead S n && textureRight (S .texture n))
+pub textures-turn : (S : Session) (n : ℕ) → texturesRead S (n + 1) ≡ (texturesRead S n && textureValid (S .texture n))
 unfolding texturesRead
 textures-turn S n = rw add-one
 
-textures-suc : (S : Session) (n : ℕ) → texturesRead S (suc n) ≡ (texturesRead S n && textureRight (S .texture n))
+textures-suc : (S : Session) (n : ℕ) → texturesRead S (suc n) ≡ (texturesRead S n && textureValid (S .texture n))
 unfolding texturesRead
 textures-suc S n = refl
 
 pub textures-stop : (S : Session) (k n : ℕ) → k ≤ n → texturesRead S k ≡ false → texturesRead S n ≡ false
-textures-stop S = and-stops (texturesRead S) (λ n. textureRight (S .texture n)) (textures-suc S)
+textures-stop S = and-stops (texturesRead S) (λ n. textureValid (S .texture n)) (textures-suc S)
 
-pub textures-each : (S : Session) (n : ℕ) → texturesRead S n ≡ true → (i : ℕ) → i < n → textureRight (S .texture i) ≡ true
-textures-each S = and-each (texturesRead S) (λ n. textureRight (S .texture n)) (textures-suc S)
+pub textures-each : (S : Session) (n : ℕ) → texturesRead S n ≡ true → (i : ℕ) → i < n → textureValid (S .texture i) ≡ true
+textures-each S = and-each (texturesRead S) (λ n. textureValid (S .texture n)) (textures-suc S)
 
-pub views-none : (S : Session) → viewsRead S 0 ≡ true
-unfolding viewsRead
+pub views-none : (S : Session) → firstViewsValid S 0 ≡ true
+unfolding firstViewsValid
 views-none S = refl
 
-pub views-turn : (S : Session) (n : ℕ) → viewsRead S (n + 1) ≡ (viewsRead S n && viewRight S (S .view n))
-unfolding viewsRead
+pub views-turn : (S : Session) (n : ℕ) → firstViewsValid S (n + 1) ≡ (firstViewsValid S n && viewValid S (S .view n))
+unfolding firstViewsValid
 views-turn S n = rw add-one
 
-views-suc : (S : Session) (n : ℕ) → viewsRead S (suc n) ≡ (viewsRead S n && viewRight S (S .view n))
-unfolding viewsRead
+views-suc : (S : Session) (n : ℕ) → firstViewsValid S (suc n) ≡ (firstViewsValid S n && viewValid S (S .view n))
+unfolding firstViewsValid
 views-suc S n = refl
 
-pub views-stop : (S : Session) (k n : ℕ) → k ≤ n → viewsRead S k ≡ false → viewsRead S n ≡ false
-views-stop S = and-stops (viewsRead S) (λ n. viewRight S (S .view n)) (views-suc S)
+pub views-stop : (S : Session) (k n : ℕ) → k ≤ n → firstViewsValid S k ≡ false → firstViewsValid S n ≡ false
+views-stop S = and-stops (firstViewsValid S) (λ n. viewValid S (S .view n)) (views-suc S)
 
-pub views-each : (S : Session) (n : ℕ) → viewsRead S n ≡ true → (i : ℕ) → i < n → viewRight S (S .view i) ≡ true
-views-each S = and-each (viewsRead S) (λ n. viewRight S (S .view n)) (views-suc S)
+pub views-each : (S : Session) (n : ℕ) → firstViewsValid S n ≡ true → (i : ℕ) → i < n → viewValid S (S .view i) ≡ true
+views-each S = and-each (firstViewsValid S) (λ n. viewValid S (S .view n)) (views-suc S)
 
 -- ── the slots of a pass
 
@@ -126,11 +126,11 @@ pub steps-turn : (S : Session) (p : Pass) (fit : Bool) (a : Progress) (n : ℕ) 
 unfolding slotSteps
 steps-turn S p fit a n = rw add-one
 
-pub next-fine : (S : Session) (p : Pass) (fit : Bool) (k : ℕ) (a : Progress) → isFine (a .verdict) ≡ true → nextSlot S p fit k a ≡ slotStep S p fit k (a .seen)
+pub next-accepted : (S : Session) (p : Pass) (fit : Bool) (k : ℕ) (a : Progress) → isAccepted (a .verdict) ≡ true → nextSlot S p fit k a ≡ slotStep S p fit k (a .seen)
 unfolding nextSlot
-next-fine S p fit k a h = ap (λ b. cond b (slotStep S p fit k (a .seen)) a) h
+next-accepted S p fit k a h = ap (λ b. cond b (slotStep S p fit k (a .seen)) a) h
 
-pub next-refused : (S : Session) (p : Pass) (fit : Bool) (k : ℕ) (a : Progress) → isFine (a .verdict) ≡ false → nextSlot S p fit k a ≡ a
+pub next-refused : (S : Session) (p : Pass) (fit : Bool) (k : ℕ) (a : Progress) → isAccepted (a .verdict) ≡ false → nextSlot S p fit k a ≡ a
 unfolding nextSlot
 next-refused S p fit k a h = ap (λ b. cond b (slotStep S p fit k (a .seen)) a) h
 
@@ -162,5 +162,5 @@ to-go n k h = omega arith
 
 -- The status bytes of number 6.
 pub bytes-turn : (bs : List ℕ) (n i : ℕ) → i < n → n ≤ length bs
-    → bytesRight (n - i) (drop i bs) ≡ (leb (getD bs i 0) 3 && bytesRight (n - (i + 1)) (drop (i + 1) bs))
-bytes-turn bs n i h g = ap (λ m. bytesRight m (drop i bs)) (to-go n i h) ∙ ap (bytesRight (suc (n - (i + 1)))) (drop-turn bs 0 i (omega arith))
+    → bytesValid (n - i) (drop i bs) ≡ (leb (getD bs i 0) 3 && bytesValid (n - (i + 1)) (drop (i + 1) bs))
+bytes-turn bs n i h g = ap (λ m. bytesValid m (drop i bs)) (to-go n i h) ∙ ap (bytesValid (suc (n - (i + 1)))) (drop-turn bs 0 i (omega arith))

@@ -7,7 +7,7 @@ use Prim.Native.Nat.{_+_, _-_, _<_}
 use Rattle.definition.specs.Surfaces.{firstOf, onlyRange}
 use Rattle.definition.specs.Session.{Session, slicesIn}
 use Rattle.definition.specs.MemoryInit.{implicitAt, retain}
-use Rattle.definition.specs.Calls.{surfaceRight, rangeRight, surfacesRight, actionsRight}
+use Rattle.definition.specs.Calls.{surfaceValid, rangeValid, surfacesValid, actionsValid}
 use Rattle.definition.specs.declared.Surface.{Surface}
 use Rattle.definition.specs.declared.Range.{Range}
 use Rattle.definition.specs.declared.Action.{Action}
@@ -18,25 +18,25 @@ use Rattle.laws.proofs.Views.{range-first}
 
 module _ (S : Session) where
   -- Records of two lists.
-  pub surfaces-append : (a b : List Surface) → surfacesRight S (a ++ b) ≡ (surfacesRight S a && surfacesRight S b)
+  pub surfaces-append : (a b : List Surface) → surfacesValid S (a ++ b) ≡ (surfacesValid S a && surfacesValid S b)
   surfaces-append [] b = refl
-  surfaces-append (x ∷ a) b = ap (λ q. surfaceRight S x && q) (surfaces-append a b) ∙ sym (and-assoc (surfaceRight S x) (surfacesRight S a) (surfacesRight S b))
+  surfaces-append (x ∷ a) b = ap (λ q. surfaceValid S x && q) (surfaces-append a b) ∙ sym (and-assoc (surfaceValid S x) (surfacesValid S a) (surfacesValid S b))
 
-  pub actions-append : (a b : List Action) → actionsRight S (a ++ b) ≡ (actionsRight S a && actionsRight S b)
+  pub actions-append : (a b : List Action) → actionsValid S (a ++ b) ≡ (actionsValid S a && actionsValid S b)
   actions-append [] b = refl
-  actions-append (x ∷ a) b = ap (λ q. rangeRight S (x .range) && q) (actions-append a b) ∙ sym (and-assoc (rangeRight S (x .range)) (actionsRight S a) (actionsRight S b))
+  actions-append (x ∷ a) b = ap (λ q. rangeValid S (x .range) && q) (actions-append a b) ∙ sym (and-assoc (rangeValid S (x .range)) (actionsValid S a) (actionsValid S b))
 
   -- Records that pass a test.
-  pub surfaces-retain : (f : Surface → Bool) (d : List Surface) → surfacesRight S d ≡ true → surfacesRight S (retain f d) ≡ true
+  pub surfaces-retain : (f : Surface → Bool) (d : List Surface) → surfacesValid S d ≡ true → surfacesValid S (retain f d) ≡ true
   surfaces-retain f [] h = refl
-  surfaces-retain f (x ∷ d) h = go (f x) (surfaces-retain f d (and-right (surfaceRight S x) (surfacesRight S d) h))
+  surfaces-retain f (x ∷ d) h = go (f x) (surfaces-retain f d (and-right (surfaceValid S x) (surfacesValid S d) h))
     where
-      go : (b : Bool) → surfacesRight S (retain f d) ≡ true → surfacesRight S (cond b (x ∷ retain f d) (retain f d)) ≡ true
-      go true ih = and-on (surfaceRight S x) _ (and-left (surfaceRight S x) (surfacesRight S d) h) ih
+      go : (b : Bool) → surfacesValid S (retain f d) ≡ true → surfacesValid S (cond b (x ∷ retain f d) (retain f d)) ≡ true
+      go true ih = and-on (surfaceValid S x) _ (and-left (surfaceValid S x) (surfacesValid S d) h) ih
       go false ih = ih
 
   -- A surface of the session as a range, and a range's first surface.
-  pub only-right : (s : Surface) → surfaceRight S s ≡ true → rangeRight S (onlyRange s) ≡ true
+  pub only-right : (s : Surface) → surfaceValid S s ≡ true → rangeValid S (onlyRange s) ≡ true
   only-right s h =
       let i : Inside S s = surface-inside S s h in
       inside-range S (onlyRange s) (record {
@@ -48,12 +48,12 @@ module _ (S : Session) where
         slice = subst (λ m. s .slice < slicesIn (S .texture (s .texture)) m) (let e : s .mip ≡ s .mip + 1 - 1 = omega arith in e) (i .slice);
       })
 
-  pub first-right : (r : Range) → rangeRight S r ≡ true → surfaceRight S (firstOf r) ≡ true
+  pub first-right : (r : Range) → rangeValid S r ≡ true → surfaceValid S (firstOf r) ≡ true
   first-right r h = inside-surface S (firstOf r) (range-first S r (range-inside S r h))
 
   -- The implicit actions of clears.
-  pub implicits-right : (d : List Surface) → surfacesRight S d ≡ true → actionsRight S (map implicitAt d) ≡ true
+  pub implicits-right : (d : List Surface) → surfacesValid S d ≡ true → actionsValid S (map implicitAt d) ≡ true
   implicits-right [] h = refl
   implicits-right (s ∷ d) h =
-      and-on (rangeRight S (onlyRange s)) _ (only-right s (and-left (surfaceRight S s) (surfacesRight S d) h))
-      (implicits-right d (and-right (surfaceRight S s) (surfacesRight S d) h))
+      and-on (rangeValid S (onlyRange s)) _ (only-right s (and-left (surfaceValid S s) (surfacesValid S d) h))
+      (implicits-right d (and-right (surfaceValid S s) (surfacesValid S d) h))

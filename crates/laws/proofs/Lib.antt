@@ -9,7 +9,7 @@ pub mod Lists
 pub mod Folds
 pub mod Places
 pub mod Submission
-pub mod Room
+pub mod Plans
 pub mod Views
 pub mod Readable
 pub mod Lent

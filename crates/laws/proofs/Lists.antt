@@ -1,4 +1,4 @@
--- Laws of lists, for loops that read or write one entry more: `Vec::retain`, what stays and what leaves, attachments in order.
+-- Laws of lists, for loops that read or write one entry more: `Vec::retain`, what stays and what leaves.
 use mathlib.Core.Path.{_≡_, refl, sym, ap, _∙_}
 use mathlib.Core.Bool.{Bool, true, false, not, cond}
 use mathlib.Core.List.{List, [], _∷_, _++_, map}
@@ -8,8 +8,7 @@ use native.Mathlib.Numerals.{add-one}
 use lib.ListN.{length, drop, getD}
 use lib.Seq.{drop-cons}
 use Rattle.definition.specs.Surfaces.{hits}
-use Rattle.definition.specs.MemoryInit.{Lists, retain, matching, others}
-use Rattle.definition.specs.Attachments.{Attached, attach, attachAll}
+use Rattle.definition.specs.MemoryInit.{retain, matching, others}
 use Rattle.definition.specs.declared.Surface.{Surface}
 use Rattle.definition.specs.declared.Range.{Range}
 
@@ -64,10 +63,3 @@ retain-split f (x ∷ a) = go (f x) (retain-split f a)
 
 pub matching-others : (r : Range) (d : List Surface) → length (matching r d) + length (others r d) ≡ length d
 matching-others r d = retain-split (hits r) d
-
--- ── attachments
-
--- In order: those of one list, then those of the other.
-pub attach-append : (xs ys : List Attached) (l : Lists) → attachAll (xs ++ ys) l ≡ attachAll ys (attachAll xs l)
-attach-append [] ys l = refl
-attach-append (x ∷ xs) ys l = attach-append xs ys (attach x l)

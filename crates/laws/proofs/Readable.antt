@@ -7,29 +7,29 @@ use lib.Dec.{leb, eqb}
 use borrow.Author.Tests.{eq-eqb, leb-true, eqb-true}
 use Rattle.definition.specs.Sizes.{headerBytes, maxTextures, maxViews, maxPasses, maxSlots, maxMultiviews, maxFlags, maxColorBytes}
 use Rattle.definition.specs.Session.{session, textureCount, textureOffset, viewCount, viewOffset, passCount, passOffset, maxColors, maxMultiview, flags, colorBytes, totalLength, viewStart, passStart, passEnd}
-use Rattle.definition.specs.Verdict.{nowhere, isFine, unless}
-use Rattle.definition.specs.Readable.{between, lengthRight, headerRight, texturesRight, viewsRight, sessionVerdict, sessionRefusal}
+use Rattle.definition.specs.Verdict.{nowhere, isAccepted, unless}
+use Rattle.definition.specs.Readable.{between, lengthValid, headerValid, texturesValid, viewsValid, sessionVerdict, sessionRefusal}
 use Rattle.laws.proofs.Tests.{and-left, and-right}
 use Rattle.laws.proofs.Conjunctions.{each}
 use Rattle.laws.proofs.Verdicts.{then-left, then-right, unless-on}
 
 pub record Tested (s : List ℕ) : Type 0 where
-  pub length : lengthRight s ≡ true
-  pub header : headerRight s ≡ true
-  pub textures : texturesRight (session s) ≡ true
-  pub views : viewsRight (session s) ≡ true
+  pub length : lengthValid s ≡ true
+  pub header : headerValid s ≡ true
+  pub textures : texturesValid (session s) ≡ true
+  pub views : viewsValid (session s) ≡ true
 
 pub tested : (s : List ℕ) → sessionRefusal s ≡ 0 → Tested s
 unfolding sessionVerdict
 tested s h =
-    let all : isFine (sessionVerdict s) ≡ true = eq-eqb (sessionRefusal s) 0 h in
-    let two = then-right (unless (lengthRight s) 1 nowhere) _ all in
-    let three = then-right (unless (headerRight s) 2 nowhere) _ two in
+    let all : isAccepted (sessionVerdict s) ≡ true = eq-eqb (sessionRefusal s) 0 h in
+    let two = then-right (unless (lengthValid s) 1 nowhere) _ all in
+    let three = then-right (unless (headerValid s) 2 nowhere) _ two in
     record {
-      length = unless-on (lengthRight s) 1 nowhere refl (then-left (unless (lengthRight s) 1 nowhere) _ all);
-      header = unless-on (headerRight s) 2 nowhere refl (then-left (unless (headerRight s) 2 nowhere) _ two);
-      textures = unless-on (texturesRight (session s)) 3 nowhere refl (then-left (unless (texturesRight (session s)) 3 nowhere) _ three);
-      views = unless-on (viewsRight (session s)) 4 nowhere refl (then-right (unless (texturesRight (session s)) 3 nowhere) _ three);
+      length = unless-on (lengthValid s) 1 nowhere refl (then-left (unless (lengthValid s) 1 nowhere) _ all);
+      header = unless-on (headerValid s) 2 nowhere refl (then-left (unless (headerValid s) 2 nowhere) _ two);
+      textures = unless-on (texturesValid (session s)) 3 nowhere refl (then-left (unless (texturesValid (session s)) 3 nowhere) _ three);
+      views = unless-on (viewsValid (session s)) 4 nowhere refl (then-right (unless (texturesValid (session s)) 3 nowhere) _ three);
     }
 
 -- A number that is between two others.
@@ -48,9 +48,9 @@ pub record RightHeader (s : List ℕ) : Type 0 where
   pub colorBytes : (1 ≤ colorBytes s) × (colorBytes s ≤ maxColorBytes)
   pub end : passEnd s ≡ totalLength s
 
-pub right-header : (s : List ℕ) → headerRight s ≡ true → RightHeader s
-unfolding headerRight
-right-header s e =
+pub valid-header : (s : List ℕ) → headerValid s ≡ true → RightHeader s
+unfolding headerValid
+valid-header s e =
     let test = each tests e in
     record {
       textures = leb-true (textureCount s) maxTextures (test 0);

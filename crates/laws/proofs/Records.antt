@@ -9,7 +9,7 @@ use mathlib.Core.List.{List, [], _∷_, _++_, append-assoc, append-nil}
 use lib.ListN.{length, take, drop, getD, length-append}
 use lib.Seq.{take-nil, take-take, take-append-le, drop-append-add, drop-drop, take-at, drop-at, length-take-le, sets, length-sets, sets-eq, getD-take, getD-drop}
 use Rattle.definition.specs.MemoryInit.{retain}
-use Rattle.laws.specs.Records.{recordAt, records, Appended}
+use Rattle.laws.specs.Records.{recordAt, records, Written, Appended}
 
 module _ {A : Type 0} where
   -- What is taken after n is dropped.
@@ -75,13 +75,6 @@ module _ {A : Type 0} (k : ℕ) (decode : List ℕ → A) where
   -- Where records end up to a place, there they end up to every later one.
   pub past-more : (a b : ℕ) (l l′ : List ℕ) → a ≤ b → drop (k * a) l′ ≡ drop (k * a) l → drop (k * b) l′ ≡ drop (k * b) l
   past-more a b l l′ h e = drop-more (k * a) (k * b) l l′ (mul-le-mul-left k h) e
-
--- l′ is l with the record s at place i: those before and every number after stay.
-pub record Written {A : Type 0} (k : ℕ) (decode : List ℕ → A) (i : ℕ) (s : A) (l l′ : List ℕ) : Type 0 where
-  pub long : length l′ ≡ length l
-  pub before : take (k * i) l′ ≡ take (k * i) l
-  pub here : recordAt k decode i l′ ≡ s
-  pub after : drop (k * suc i) l′ ≡ drop (k * suc i) l
 
 -- The stores of a record's k numbers write it.
 pub written : {A : Type 0} (k : ℕ) (decode : List ℕ → A) (i : ℕ) (vs l l′ : List ℕ) (s : A) → length vs ≡ k → k * i + k ≤ length l → decode vs ≡ s → l′ ≡ sets l (k * i) vs

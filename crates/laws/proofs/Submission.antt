@@ -15,7 +15,7 @@ use Rattle.definition.specs.Session.{Session, surfaceCount, surfacesOf, surface
 use Rattle.definition.specs.Status.{filled, cleared, restart, actByte, emptyByte}
 use Rattle.definition.specs.MemoryInit.{implicitAt}
 use Rattle.definition.specs.Submission.{byteActs, byteAfter, submitBytes}
-use Rattle.definition.specs.Calls.{bytesRight}
+use Rattle.definition.specs.Calls.{bytesValid}
 use Rattle.definition.specs.declared.Surface.{Surface}
 use Rattle.definition.specs.declared.Action.{Action}
 use Rattle.definition.specs.declared.MemoryInitKind.the-variants.{ImplicitlyInitialized}
@@ -239,19 +239,19 @@ submitted-byte S a d bs room s ok =
 
 -- ── number 6 of status bytes
 
-pub submit-right : (a : List Action) (d ss : List Surface) (bs : List ℕ) → bytesRight (length ss) bs ≡ true → bytesRight (length ss) (submitBytes a d ss bs) ≡ true
+pub submit-right : (a : List Action) (d ss : List Surface) (bs : List ℕ) → bytesValid (length ss) bs ≡ true → bytesValid (length ss) (submitBytes a d ss bs) ≡ true
 submit-right a d [] bs h = refl
 submit-right a d (s ∷ ss) [] h = h
 submit-right a d (s ∷ ss) (b ∷ bs) h =
-    and-on (leb (byteAfter a d s b) 3) _ (le-leb (byteAfter a d s b) 3 (after-most a d s b)) (submit-right a d ss bs (and-right (leb b 3) (bytesRight (length ss) bs) h))
+    and-on (leb (byteAfter a d s b) 3) _ (le-leb (byteAfter a d s b) 3 (after-most a d s b)) (submit-right a d ss bs (and-right (leb b 3) (bytesValid (length ss) bs) h))
 
-pub bytes-long : (n : ℕ) (bs : List ℕ) → bytesRight n bs ≡ true → n ≤ length bs
+pub bytes-long : (n : ℕ) (bs : List ℕ) → bytesValid n bs ≡ true → n ≤ length bs
 bytes-long zero bs h = omega arith
 bytes-long (suc n) [] h = clash {b = false} h refl
-bytes-long (suc n) (b ∷ bs) h = omega (arith, bytes-long n bs (and-right (leb b 3) (bytesRight n bs) h))
+bytes-long (suc n) (b ∷ bs) h = omega (arith, bytes-long n bs (and-right (leb b 3) (bytesValid n bs) h))
 
 -- Fresh bytes are right.
-pub bytes-fresh : (n m : ℕ) → n ≤ m → bytesRight n (replicate m 0) ≡ true
+pub bytes-fresh : (n m : ℕ) → n ≤ m → bytesValid n (replicate m 0) ≡ true
 bytes-fresh zero m h = refl
 bytes-fresh (suc n) zero h = absurd (omega arith)
 bytes-fresh (suc n) (suc m) h = bytes-fresh n m (omega arith)

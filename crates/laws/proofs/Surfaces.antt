@@ -10,7 +10,7 @@ use borrow.Author.Tests.{eqb-true, eqb-false, eq-eqb, ne-eqb, leb-true, leb-fals
 use Rattle.definition.specs.Surfaces.{same, within, hits, firstOf, onlyRange, named, layersFrom, layersOf, elem}
 use Rattle.definition.specs.Session.{Session, arrayLayers, slicesIn}
 use Rattle.definition.specs.MemoryInit.{retain}
-use Rattle.definition.specs.Calls.{surfaceRight, rangeRight}
+use Rattle.definition.specs.Calls.{surfaceValid, rangeValid}
 use Rattle.definition.specs.declared.Texture.{Texture}
 use Rattle.definition.specs.declared.Surface.{Surface}
 use Rattle.definition.specs.declared.Range.{Range}
@@ -163,8 +163,8 @@ named-hit r p q s h =
 -- ── surfaces and ranges of a session
 
 -- Number 6's tests as facts, and from facts.
-pub surface-inside : (S : Session) (s : Surface) → surfaceRight S s ≡ true → Inside S s
-unfolding surfaceRight
+pub surface-inside : (S : Session) (s : Surface) → surfaceValid S s ≡ true → Inside S s
+unfolding surfaceValid
 surface-inside S s h =
     let t : Texture = S .texture (s .texture) in
     let test = each (ltb (s .texture) (S .textureCount) ∷ ltb (s .mip) (t .mips) ∷ ltb (s .layer) (arrayLayers t) ∷ ltb (s .slice) (slicesIn t (s .mip)) ∷ []) h in
@@ -175,8 +175,8 @@ surface-inside S s h =
       slice = ltb-true (s .slice) (slicesIn t (s .mip)) (test 3);
     }
 
-pub inside-surface : (S : Session) (s : Surface) → Inside S s → surfaceRight S s ≡ true
-unfolding surfaceRight
+pub inside-surface : (S : Session) (s : Surface) → Inside S s → surfaceValid S s ≡ true
+unfolding surfaceValid
 inside-surface S s h =
     simp (
       lt-ltb (s .texture) (S .textureCount) (h .texture),
@@ -199,15 +199,15 @@ range-from S r texture some-mip mips some-layer layers slice = record {
   slice = slice;
 }
 
-pub range-inside : (S : Session) (r : Range) → rangeRight S r ≡ true → RangeInside S r
-unfolding rangeRight
+pub range-inside : (S : Session) (r : Range) → rangeValid S r ≡ true → RangeInside S r
+unfolding rangeValid
 range-inside S r h =
     let t : Texture = S .texture (r .texture) in
     let test = each (ltb (r .texture) (S .textureCount) ∷ leb 1 (r .mips) ∷ leb (r .mip + r .mips) (t .mips) ∷ leb 1 (r .layers) ∷ leb (r .layer + r .layers) (arrayLayers t) ∷ ltb (r .slice) (slicesIn t (r .mip + r .mips - 1)) ∷ []) h in
     range-from S r (test 0) (test 1) (test 2) (test 3) (test 4) (ltb-true (r .slice) (slicesIn t (r .mip + r .mips - 1)) (test 5))
 
-pub inside-range : (S : Session) (r : Range) → RangeInside S r → rangeRight S r ≡ true
-unfolding rangeRight
+pub inside-range : (S : Session) (r : Range) → RangeInside S r → rangeValid S r ≡ true
+unfolding rangeValid
 inside-range S r h =
     simp (
       lt-ltb (r .texture) (S .textureCount) (h .texture),

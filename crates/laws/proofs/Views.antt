@@ -11,7 +11,7 @@ use lib.Dec.{leb, ltb, eqb}
 use borrow.Author.Tests.{eqb-true, leb-true}
 use Rattle.definition.specs.Surfaces.{hits, firstOf}
 use Rattle.definition.specs.Session.{Session, arrayLayers, slicesIn, viewRange, renderAttachment, isD2, isD2Array, isD3}
-use Rattle.definition.specs.Readable.{between, usageAmong, dimensionFits, formatFits, viewInTexture, viewRight}
+use Rattle.definition.specs.Readable.{between, usageAmong, dimensionFits, formatFits, viewInTexture, viewValid}
 use Rattle.definition.specs.Views.{renderable}
 use Rattle.definition.specs.declared.Texture.{Texture}
 use Rattle.definition.specs.declared.View.{View}
@@ -57,8 +57,8 @@ viewTests t v =
     dimensionFits (v .dimension) (t .dimension) ∷ leb 1 (v .mips) ∷ leb (v .mip + v .mips) (t .mips)
     ∷ leb 1 (v .layers) ∷ leb (v .layer + v .layers) (arrayLayers t) ∷ usageAmong (v .usage) (t .usage) ∷ leb (v .resolvable) 1 ∷ formatFits (v .format) (t .format) ∷ []
 
-pub valid-view : (S : Session) (v : View) → viewRight S v ≡ true → ValidView S v
-unfolding viewRight viewInTexture
+pub valid-view : (S : Session) (v : View) → viewValid S v ≡ true → ValidView S v
+unfolding viewValid viewInTexture
 valid-view S v h =
     let t : Texture = S .texture (v .texture) in
     let test = each (viewTests t v) (and-right (ltb (v .texture) (S .textureCount)) (viewInTexture t v) h) in

@@ -1,5 +1,6 @@
 pub mod Surfaces
 pub mod Submission
-pub mod Room
+pub mod Separate
+pub mod Plans
 pub mod Views
 pub mod Records

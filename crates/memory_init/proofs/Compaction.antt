@@ -8,12 +8,11 @@ use lib.ListN.{length, set, getD, length-set}
 use Rattle.definition.specs.Sizes.{surfaceNumbers}
 use Rattle.definition.specs.Surfaces.{hits}
 use Rattle.definition.specs.declared.Surface.{Surface}
-use Rattle.laws.proofs.Records.{Written}
+use Rattle.laws.specs.Records.{Written}
 use Rattle.laws.proofs.Compact.{Compacting, compact-keeps, compact-passes, compact-done}
-use Rattle.records.specs.Lent.{decodeSurface, surfaceIn}
-use Rattle.memory_init.specs.Slices.{numbers, rangeOf, Kept}
+use Rattle.memory_init.specs.Slices.{decodeSurface, numbers, rangeOf, Kept}
 use Rattle.memory_init.specs.declared.texture_surface_discards.TextureInitRange.{TextureInitRange}
-use Rattle.memory_init.proofs.Slices.{none, numbers-at, slice-written}
+use Rattle.memory_init.proofs.Slices.{none, surfaceIn, numbers-at, slice-written}
 use Rattle.memory_init.proofs.Contents.{retained-records}
 
 -- The test of what stays.

@@ -14,9 +14,8 @@ use Rattle.definition.specs.declared.Range.{Range}
 use Rattle.laws.proofs.Lists.{retain-most}
 use Rattle.laws.specs.Records.{records, Appended, Retained}
 use Rattle.laws.proofs.Records.{records-length, write-append, append-count}
-use Rattle.records.specs.Lent.{decodeSurface, surfaces}
-use Rattle.memory_init.specs.Slices.{numbers, Listed}
-use Rattle.memory_init.proofs.Slices.{none, numbers-at, slice-written}
+use Rattle.memory_init.specs.Slices.{decodeSurface, numbers, Listed}
+use Rattle.memory_init.proofs.Slices.{none, surfaces, numbers-at, slice-written}
 
 -- The flat list's records are the slice's.
 slice-records : (n : ℕ) (l : List Surface) → n ≤ length l → surfaces n (numbers l) ≡ take n l

@@ -1,2 +1,5 @@
-pub mod Lent
+-- The root of what this crate means beyond the definition.
+pub mod Plans
+pub mod Tally
+pub mod Recording
 pub mod Slices

@@ -3,20 +3,22 @@ use Prim.Native.Nat.{ℕ, _<_, _≤_}
 use mathlib.Core.Path.{_≡_}
 use mathlib.Core.Bool.{not}
 use mathlib.Core.List.{List, [], _∷_, _++_}
-use lib.ListN.{length, take}
+use lib.ListN.{length, take, getD}
 use Rattle.definition.specs.Sizes.{surfaceNumbers}
-use Rattle.definition.specs.Surfaces.{hits, rangeAt}
+use Rattle.definition.specs.Surfaces.{hits, surfaceAt, rangeAt}
 use Rattle.definition.specs.MemoryInit.{others}
 use Rattle.definition.specs.declared.Surface.{Surface}
 use Rattle.definition.specs.declared.Range.{Range}
 use Rattle.laws.specs.Records.{Appended, Retained}
-use Rattle.records.specs.Lent.{decodeSurface}
 use Rattle.memory_init.specs.declared.texture_surface_discards.TextureInitRange.{TextureInitRange}
 
 abbrev pub rangeOf : TextureInitRange → Range
 rangeOf r = rangeAt (r .texture) (r .mip) (r .mips) (r .layer) (r .layers) (r .slice)
 
--- The records' numbers.
+-- The surface of four numbers, and the numbers of a list of them.
+unfoldable pub decodeSurface : List ℕ → Surface
+decodeSurface l = surfaceAt (getD l 0 0) (getD l 1 0) (getD l 2 0) (getD l 3 0)
+
 abbrev pub numbers : List Surface → List ℕ
 numbers [] = []
 numbers (s ∷ l) = s .texture ∷ s .mip ∷ s .layer ∷ s .slice ∷ numbers l

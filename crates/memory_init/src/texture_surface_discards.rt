@@ -1,8 +1,8 @@
 // The discard list as a lent slice of records (Vec<TextureSurfaceDiscard>), for callers in C.
 // Both functions have the flat form's contracts, over the records' numbers, and test what they are given: neither has a `requires`.
+use crate::hits;
 use definition::Range;
 use definition::Surface;
-use records::hits;
 ghost use mathlib.Core.Bool.{not};
 ghost use mathlib.Core.Path.{_≡_};
 ghost use Rattle.definition.specs.Surfaces as Surfaces;

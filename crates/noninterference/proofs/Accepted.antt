@@ -9,8 +9,8 @@ use Rattle.definition.specs.Sizes.{maxSlots}
 use Rattle.definition.specs.Formats.{isColor}
 use Rattle.definition.specs.Surfaces.{elem, meets}
 use Rattle.definition.specs.Session.{Pass, Session, isNone, strict, formatOf, textureFormat, attachedSlice, sliceRange, isD3, transient}
-use Rattle.definition.specs.Verdict.{resolveAt, atDepthStencil, nowhere, fine, isFine, refusedAt, _then_, unless}
-use Rattle.definition.specs.Readable.{viewsRight, channelReads, depthStencilReads, resolveReads, slotReads, slotsRead, passReads}
+use Rattle.definition.specs.Verdict.{resolveAt, atDepthStencil, nowhere, accepted, isAccepted, refusedAt, _then_, unless}
+use Rattle.definition.specs.Readable.{viewsValid, channelReads, depthStencilReads, resolveReads, slotReads, slotsRead, passValid}
 use Rattle.definition.specs.Channel.{ignores, keepOf, transientOps}
 use Rattle.definition.specs.Views.{noneSeen, takes, depthStencilView, colorView, resolveView, seeView}
 use Rattle.definition.specs.Check.{slotLoad, slotOps, colorOps, channelOps, depthStencilOps, opsVerdict, progress, resolveTakes, slotTakes, takenBefore, bytesFit, depthStencilStep, resolveStep, colorStep, slotStep, nextSlot, slotSteps, maskStep, viewSteps, check}
@@ -28,11 +28,11 @@ use Rattle.laws.proofs.Surfaces.{hits-in, elem-append, named-hit}
 use Rattle.laws.proofs.Lists.{map-append}
 use Rattle.laws.proofs.Overlap.{apart-elem}
 use Rattle.laws.proofs.Verdicts.{then-left, then-right, unless-on}
-use Rattle.laws.proofs.Folds.{next-fine, next-refused}
+use Rattle.laws.proofs.Folds.{next-accepted, next-refused}
 use Rattle.noninterference.specs.Memory.{usesOf, slotSlices, slotsSlices, passSlices}
 use Rattle.noninterference.proofs.Plans.{plannedUse}
 use Rattle.laws.specs.Surfaces.{RangeInside}
-use Rattle.laws.specs.Room.{reaches, reached, Separate}
+use Rattle.laws.specs.Separate.{reaches, reached, Separate}
 use Rattle.noninterference.proofs.Passes.{find, All, Distinct, all-map, all-append, distinct-append, unfound, reached-append}
 use Rattle.noninterference.proofs.Sound.{Sound, Fit}
 use Rattle.noninterference.proofs.Checked.{Single, ViewFacts, view-facts, takes-reached, strict-off, ColorFacts, target-facts, color-facts, DepthFacts, depth-facts}
@@ -67,9 +67,9 @@ slot-more S taken t own x xs c took a r = record {
     go s false f h = or-on-left (elem s own) (elem s t) (r .takes s (or-second (reaches x s) (reached s xs) h f))
 
 abbrev fineStep : Progress → Bool
-fineStep a = isFine (a .verdict)
+fineStep a = isAccepted (a .verdict)
 
-module _ (S : Session) (vs : viewsRight S ≡ true) where
+module _ (S : Session) (vs : viewsValid S ≡ true) where
   -- Its resolve target, where the colour view v takes t.
   resolve-facts : (s : Slot) (k : ℕ) (v : View) (q : Seen) (taken : List Surface) → resolveReads S (s .resolve) ≡ true → isColor (formatOf v) ≡ true
       → fineStep (resolveStep S q taken s v k) ≡ true → SlotFacts S (takes v (s .slice) ++ taken) (resolvePart S s) (resolveTakes S s)
@@ -83,7 +83,7 @@ module _ (S : Session) (vs : viewsRight S ≡ true) where
       before = takes v (s .slice) ++ taken
 
       go : (b : Bool) → isNone (s .resolve) ≡ b
-          → fineStep (cond b (progress fine q) (progress (resolveView S q before v r (resolveAt k)) q)) ≡ true
+          → fineStep (cond b (progress accepted q) (progress (resolveView S q before v r (resolveAt k)) q)) ≡ true
           → SlotFacts S before (cond b [] (resolveTo (s .resolve) (sliceRange r 0) ∷ [])) (cond b [] (takes r 0))
       go true e h = slot-none S before []
       go false e h =
@@ -92,7 +92,7 @@ module _ (S : Session) (vs : viewsRight S ≡ true) where
           slot-more S before (takes r 0) [] (resolveTo (s .resolve) (sliceRange r 0)) [] (f .0) (takes-reached r 0 (f .0 .mip)) (f .1) (slot-none S (takes r 0 ++ before) [])
 
   -- Slot k of a pass.
-  slot-facts : (p : Pass) (fit : Bool) (k : ℕ) (q : Seen) → slotReads S (p .slot k) ≡ true → isFine (slotOps S (p .slot k) k) ≡ true → fineStep (slotStep S p fit k q) ≡ true
+  slot-facts : (p : Pass) (fit : Bool) (k : ℕ) (q : Seen) → slotReads S (p .slot k) ≡ true → isAccepted (slotOps S (p .slot k) k) ≡ true → fineStep (slotStep S p fit k q) ≡ true
       → SlotFacts S (takenBefore S p k) (slotPart S (p .slot k)) (slotTakes S (p .slot k))
   unfolding slotReads slotOps slotStep colorStep slotPart
   slot-facts p fit k q ok ops h = go (isNone (s .view)) ok ops h
@@ -112,7 +112,7 @@ module _ (S : Session) (vs : viewsRight S ≡ true) where
       allowed : Verdict
       allowed = unless (not (ignores (slotLoad s) && strict S)) 11 k then unless (not (transient v) || transientOps (slotLoad s) (keepOf (s .store))) 12 k
 
-      full : reads ≡ true → isFine allowed ≡ true → (b : Bool) → isFine (colorView S q fit taken s v k) ≡ b
+      full : reads ≡ true → isAccepted allowed ≡ true → (b : Bool) → isAccepted (colorView S q fit taken s v k) ≡ b
           → fineStep (cond b (resolveStep S (seeView S q v k) taken s v k) (progress (colorView S q fit taken s v k) q)) ≡ true
           → SlotFacts S taken (colorOf S s ∷ resolvePart S s) (resolveTakes S s ++ takes v (s .slice))
       full ok ops false e h = clash h e
@@ -126,11 +126,11 @@ module _ (S : Session) (vs : viewsRight S ≡ true) where
           slot-more S taken (takes v (s .slice)) (resolveTakes S s) (colorOf S s) (resolvePart S s) (f .0) (takes-reached v (s .slice) (f .0 .mip)) (f .1)
           (resolve-facts s k v (seeView S q v k) taken (and-right (ltb (s .view) (S .viewCount) && leb (s .sliced) 1) (resolveReads S (s .resolve)) r2) (f .2) h)
 
-      go : (b : Bool) → (b || reads) ≡ true → isFine (cond b fine allowed) ≡ true
-          → fineStep (cond b (progress fine q) (colorStep S q fit taken s v k)) ≡ true
+      go : (b : Bool) → (b || reads) ≡ true → isAccepted (cond b accepted allowed) ≡ true
+          → fineStep (cond b (progress accepted q) (colorStep S q fit taken s v k)) ≡ true
           → SlotFacts S taken (cond b [] (colorOf S s ∷ resolvePart S s)) (cond b [] (resolveTakes S s ++ takes v (s .slice)))
       go true ok ops h = slot-none S taken []
-      go false ok ops h = full ok ops (isFine (colorView S q fit taken s v k)) refl h
+      go false ok ops h = full ok ops (isAccepted (colorView S q fit taken s v k)) refl h
 
   -- ── all slots
 
@@ -139,7 +139,7 @@ module _ (S : Session) (vs : viewsRight S ≡ true) where
     distinct : Distinct (slotParts S p n)
     taken : (s : Surface) → reached s (slotParts S p n) ≡ true → elem s (takenBefore S p n) ≡ true
 
-  -- A step is fine where what came before it is.
+  -- A step is accepted where what came before it is.
   next-start : (p : Pass) (fit : Bool) (k : ℕ) (a : Progress) → fineStep (nextSlot S p fit k a) ≡ true → fineStep a ≡ true
   next-start p fit k a h = go (fineStep a) refl
     where
@@ -152,7 +152,7 @@ module _ (S : Session) (vs : viewsRight S ≡ true) where
   steps-start p fit a zero h = h
   steps-start p fit a (suc n) h = steps-start p fit a n (next-start p fit n (slotSteps S p fit a n) h)
 
-  slots-facts : (p : Pass) (fit : Bool) (a : Progress) (n : ℕ) → slotsRead S p n ≡ true → isFine (colorOps S p n) ≡ true → fineStep (slotSteps S p fit a n) ≡ true → SlotsFacts p n
+  slots-facts : (p : Pass) (fit : Bool) (a : Progress) (n : ℕ) → slotsRead S p n ≡ true → isAccepted (colorOps S p n) ≡ true → fineStep (slotSteps S p fit a n) ≡ true → SlotsFacts p n
   unfolding slotsRead colorOps slotSteps slotParts takenBefore
   slots-facts p fit a zero ok ops h = record { facts = tt; distinct = tt; taken = λ s e. clash {b = false} e refl }
   slots-facts p fit a (suc n) ok ops h =
@@ -160,7 +160,7 @@ module _ (S : Session) (vs : viewsRight S ≡ true) where
       let r : SlotsFacts p n = slots-facts p fit a n (and-left (slotsRead S p n) _ ok) (then-left (colorOps S p n) _ ops) g in
       let f : SlotFacts S (takenBefore S p n) (slotPart S (p .slot n)) (slotTakes S (p .slot n)) =
       slot-facts p fit n (slotSteps S p fit a n .seen) (and-right (slotsRead S p n) (slotReads S (p .slot n)) ok) (then-right (colorOps S p n) (slotOps S (p .slot n) n) ops)
-      (ap fineStep (sym (next-fine S p fit n (slotSteps S p fit a n) g)) ∙ h) in
+      (ap fineStep (sym (next-accepted S p fit n (slotSteps S p fit a n) g)) ∙ h) in
       record {
         facts = all-append (ColorFacts S) (slotParts S p n) (slotPart S (p .slot n)) (r .facts) (f .facts);
         distinct = distinct-append (slotParts S p n) (slotPart S (p .slot n)) (r .distinct) (f .distinct) (λ s e. f .apart s (r .taken s e));
@@ -183,8 +183,8 @@ record Reads (S : Session) (p : Pass) : Type 0 where
   depth : depthStencilReads S p ≡ true
   slots : slotsRead S p (p .colors) ≡ true
 
-reads-parts : (S : Session) (p : Pass) → passReads S p ≡ true → Reads S p
-unfolding passReads
+reads-parts : (S : Session) (p : Pass) → passValid S p ≡ true → Reads S p
+unfolding passValid
 reads-parts S p h = go (leb (p .colors) maxSlots) refl h
   where
     go : (b : Bool) → leb (p .colors) maxSlots ≡ b → cond b (leb (p .ends) 1 && depthStencilReads S p && slotsRead S p (p .colors)) false ≡ true → Reads S p
@@ -196,15 +196,15 @@ reads-parts S p h = go (leb (p .colors) maxSlots) refl h
 
 record Accepted (S : Session) (p : Pass) : Type 0 where
   reads : Reads S p
-  slotOps : isFine (colorOps S p (p .colors)) ≡ true
-  depthOps : isFine (depthStencilOps S p) ≡ true
+  slotOps : isAccepted (colorOps S p (p .colors)) ≡ true
+  depthOps : isAccepted (depthStencilOps S p) ≡ true
   steps : fineStep (slotSteps S p (bytesFit S p) (depthStencilStep S p) (p .colors)) ≡ true
 
 check-parts : (S : Session) (p : Pass) → fineStep (check S p) ≡ true → Accepted S p
 unfolding check opsVerdict viewSteps maskStep
-check-parts S p h = go (passReads S p) refl (isFine (opsVerdict S p)) refl h
+check-parts S p h = go (passValid S p) refl (isAccepted (opsVerdict S p)) refl h
   where
-    go : (a : Bool) → passReads S p ≡ a → (b : Bool) → isFine (opsVerdict S p) ≡ b
+    go : (a : Bool) → passValid S p ≡ a → (b : Bool) → isAccepted (opsVerdict S p) ≡ b
         → fineStep (cond a (cond b (viewSteps S p) (progress (opsVerdict S p) noneSeen)) (progress (refusedAt 5 nowhere) noneSeen)) ≡ true → Accepted S p
     go false e b f h = clash {b = false} h refl
     go true e false f h = clash h f
@@ -279,7 +279,7 @@ depth-apart S t (x ∷ xs) n h s e = go (reaches x s) refl (depth-apart S t xs n
     go true f ih = clash (h .0 .colored) (ap (λ u. isColor (S .texture u .format)) (sym (hits-in (rangeIn x) s f .texture) ∙ e) ∙ n)
     go false f ih = rw f ih
 
-pub accepted-okay : (S : Session) → viewsRight S ≡ true → (p : Pass) → fineStep (check S p) ≡ true → Okay S (attachments S p)
+pub accepted-okay : (S : Session) → viewsValid S ≡ true → (p : Pass) → fineStep (check S p) ≡ true → Okay S (attachments S p)
 unfolding attachments depthStencilPart depthStencilStep depthStencilReads depthStencilOps
 accepted-okay S vs p h =
     go (isNone (p .depthStencil)) (k .reads .depth) (k .depthOps) (steps-start S vs p (bytesFit S p) (depthStencilStep S p) (p .colors) (k .steps))
@@ -304,8 +304,8 @@ accepted-okay S vs p h =
     ranges = all-map (ColorFacts S) (Ranged S) (λ y f. record { range = f .range; mip = f .mip }) xs
 
     go : (b : Bool) → (b || ltb (p .depthStencil) (S .viewCount) && channelReads (p .depth) && channelReads (p .stencil)) ≡ true
-        → isFine (cond b fine (channelOps (strict S) (transient v) (formatOf v) (p .depth) (p .stencil))) ≡ true
-        → fineStep (cond b (progress fine noneSeen) (progress (depthStencilView S v) (seeView S noneSeen v atDepthStencil))) ≡ true
+        → isAccepted (cond b accepted (channelOps (strict S) (transient v) (formatOf v) (p .depth) (p .stencil))) ≡ true
+        → fineStep (cond b (progress accepted noneSeen) (progress (depthStencilView S v) (seeView S noneSeen v atDepthStencil))) ≡ true
         → SlotsFacts S vs p (p .colors)
         → Okay S (_++_ {A = Attached} (cond b [] (x ∷ [])) xs)
     go true r o g sl = record { sound = sounds (sl .facts); ranged = ranges (sl .facts); distinct = sl .distinct; told = all-told S (ofFirst 0 divergentOf xs) xs (sl .facts) }
@@ -326,14 +326,14 @@ all-separate : (S : Session) (xs : List Attached) → All (Ranged S) xs → Dist
 all-separate S [] a d = tt
 all-separate S (x ∷ xs) a d = (λ s h. unfound s xs (d .0 s h), named-hit (rangeIn x) (a .0 .range .some-mip) (a .0 .range .some-layer), all-separate S xs (a .1) (d .1))
 
-pub pass-separate : (S : Session) → viewsRight S ≡ true → (p : Pass) → isFine (check S p .verdict) ≡ true → Separate (attachments S p)
+pub pass-separate : (S : Session) → viewsValid S ≡ true → (p : Pass) → isAccepted (check S p .verdict) ≡ true → Separate (attachments S p)
 pass-separate S vs p h = let k : Okay S (attachments S p) = accepted-okay S vs p h in all-separate S (attachments S p) (k .ranged) (k .distinct)
 
 -- ── the theorem's conditions
 
 -- Readable, strict, every view of one layer.
 pub record Conditions (S : Session) : Type 0 where
-  pub views : viewsRight S ≡ true
+  pub views : viewsValid S ≡ true
   pub strict : strict S ≡ true
   pub single : Single S
 

@@ -13,7 +13,7 @@ use Rattle.laws.proofs.Surfaces.{same-refl}
 use Rattle.noninterference.specs.Memory.{Aspect, colorAspect, depthAspect, stencilAspect, sameAspect, hasAspect, Input, shows, clears, nothing, Part, Use, Told, Cells, Drawing, useAt, partAt, isDivergent, partValue, partValues, layerValues, values, sees, partAfter, cellAfter, run, runs, shown}
 use Rattle.noninterference.specs.Claim.{Agree, later, lastUse}
 use Rattle.noninterference.proofs.Plans.{plannedUse, partsOf, hasPart, isLoad, anyLoad, keptPart, settled}
-use Rattle.laws.specs.Room.{reaches}
+use Rattle.laws.specs.Separate.{reaches}
 use Rattle.noninterference.proofs.Passes.{All}
 use Rattle.noninterference.proofs.Sound.{Sound}
 

@@ -12,8 +12,8 @@ use borrow.Author.Tests.{eqb-true, ltb-true}
 use Rattle.definition.specs.Formats.{isColor, isDepthStencil, aspects, hasDepth, hasStencil}
 use Rattle.definition.specs.Surfaces.{hits, layersOf, elem, meets}
 use Rattle.definition.specs.Session.{Pass, Session, strict, formatOf, textureFormat, slicesIn, rangeOf, attachedSlice, sliceRange, viewRange, depthOf, isD2, isD2Array, isD3, transient}
-use Rattle.definition.specs.Verdict.{atDepthStencil, isFine, _then_, unless}
-use Rattle.definition.specs.Readable.{viewsRight}
+use Rattle.definition.specs.Verdict.{atDepthStencil, isAccepted, _then_, unless}
+use Rattle.definition.specs.Readable.{viewsValid}
 use Rattle.definition.specs.Channel.{LoadOp, loadOp, clearOp, dontCare, Ops, operational, keepOf, ignores, loadBits, storeBits, clearValue, PassChannel, depthChannel, stencilChannel, Handled, value, refusal, resolveReadOnly, withStore, withClear, resolveOps, resolve, handleDepth, handleStencil, resolveDepth, resolveStencil, depthResolved, stencilResolved, resolvedOps}
 use Rattle.definition.specs.Views.{noneSeen, renderable, multiviewVerdict, viewVerdict, sliceVerdict, takes, overlapVerdict, depthStencilView, colorView, targetView, targetOf, resolveView}
 use Rattle.definition.specs.Check.{slotLoad, channelOps}
@@ -101,7 +101,7 @@ pub record ViewFacts (S : Session) (v : View) : Type 0 where
   pub valid : ValidView S v
   pub single : Single S → v .layers ≡ 1
 
-pub view-facts : (S : Session) → viewsRight S ≡ true → (k : ℕ) → ltb k (S .viewCount) ≡ true → ViewFacts S (S .view k)
+pub view-facts : (S : Session) → viewsValid S ≡ true → (k : ℕ) → ltb k (S .viewCount) ≡ true → ViewFacts S (S .view k)
 view-facts S vs k h =
     let g : k < S .viewCount = ltb-true k (S .viewCount) h in
     record { valid = valid-view S (S .view k) (views-each S (S .viewCount) vs k g); single = λ one. one k g }
@@ -134,7 +134,7 @@ range-at S v k known mip h = record {
 }
 
 -- 38.
-slice-inside : (S : Session) (c : Slot) (v : View) (place : ℕ) → ValidView S v → v .mips ≡ 1 → isFine (sliceVerdict S c v place) ≡ true → RangeInside S (sliceRange v (c .slice))
+slice-inside : (S : Session) (c : Slot) (v : View) (place : ℕ) → ValidView S v → v .mips ≡ 1 → isAccepted (sliceVerdict S c v place) ≡ true → RangeInside S (sliceRange v (c .slice))
 unfolding sliceVerdict slicesIn
 slice-inside S c v place known mip h = range-at S v (attachedSlice v (c .slice)) known mip (go (isD3 v) refl h)
   where
@@ -142,7 +142,7 @@ slice-inside S c v place known mip h = range-at S v (attachedSlice v (c .slice))
     x = S .texture (v .texture)
 
     go : (b : Bool) → isD3 v ≡ b
-        → isFine (cond b (unless (eqb (c .sliced) 1) 39 place then unless (ltb (c .slice) (depthOf S v)) 38 place) (unless (eqb (c .sliced) 0) 40 place)) ≡ true
+        → isAccepted (cond b (unless (eqb (c .sliced) 1) 39 place then unless (ltb (c .slice) (depthOf S v)) 38 place) (unless (eqb (c .sliced) 0) 40 place)) ≡ true
         → cond b (c .slice) 0 < slicesIn x (v .mip)
     go true e h =
         let d : slicesIn x (v .mip) ≡ depthOf S v = rw (solid-view (v .dimension) (x .dimension) (known .dimension) e) in
@@ -171,7 +171,7 @@ strict-off false b h e = refl
 
 -- A resolve target: 41, 34, 43.
 pub target-facts : (S : Session) (v : View) (n place : ℕ) (q : Seen) (taken : List Surface) → ViewFacts S (S .view n) → isColor (formatOf v) ≡ true
-    → isFine (resolveView S q taken v (S .view n) place) ≡ true
+    → isAccepted (resolveView S q taken v (S .view n) place) ≡ true
     → ColorFacts S (resolveTo n (sliceRange (S .view n) 0)) × (meets (takes (S .view n) 0) taken ≡ false)
 unfolding resolveView targetView targetOf overlapVerdict
 target-facts S v n place q taken known col h =
@@ -197,7 +197,7 @@ target-facts S v n place q taken known col h =
 
 -- A colour: 11, 34, 37, 41.
 pub color-facts : (S : Session) (c : Slot) (k : ℕ) (q : Seen) (fit : Bool) (taken : List Surface) → ViewFacts S (S .view (c .view)) → (strict S ≡ true → ignores (slotLoad c) ≡ false)
-    → isFine (colorView S q fit taken c (S .view (c .view)) k) ≡ true
+    → isAccepted (colorView S q fit taken c (S .view (c .view)) k) ≡ true
     → ColorFacts S (colorOf S c) × (meets (takes (S .view (c .view)) (c .slice)) taken ≡ false) × (isColor (formatOf (S .view (c .view))) ≡ true)
 unfolding colorView viewVerdict overlapVerdict
 color-facts S c k q fit taken known cares h =
@@ -272,8 +272,8 @@ pub record DepthFacts (S : Session) (p : Pass) : Type 0 where
       ≡ record { surfaces = layersOf (viewRange (S .view (p .depthStencil))); parts = partsOf (depthStencilOf S p (S .view (p .depthStencil))); divergent = d }
 
 pub depth-facts : (S : Session) (p : Pass) → ViewFacts S (S .view (p .depthStencil))
-    → isFine (channelOps (strict S) (transient (S .view (p .depthStencil))) (formatOf (S .view (p .depthStencil))) (p .depth) (p .stencil)) ≡ true
-    → isFine (depthStencilView S (S .view (p .depthStencil))) ≡ true → DepthFacts S p
+    → isAccepted (channelOps (strict S) (transient (S .view (p .depthStencil))) (formatOf (S .view (p .depthStencil))) (p .depth) (p .stencil)) ≡ true
+    → isAccepted (depthStencilView S (S .view (p .depthStencil))) ≡ true → DepthFacts S p
 unfolding channelOps depthStencilView viewVerdict
 depth-facts S p known ops h =
     let v : View = S .view (p .depthStencil) in

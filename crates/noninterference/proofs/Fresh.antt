@@ -8,7 +8,7 @@ use lib.ListN.{length, take, getD, replicate}
 use lib.Seq.{getD-take}
 use Rattle.definition.specs.Sizes.{maxSurfaces}
 use Rattle.definition.specs.Session.{Session, surfaceCount, surfaceIndex, surfacesOf}
-use Rattle.definition.specs.Calls.{State, fresh, bytesRight}
+use Rattle.definition.specs.Calls.{State, fresh, bytesValid}
 use Rattle.definition.specs.declared.Surface.{Surface}
 use Rattle.laws.specs.Surfaces.{Inside}
 use Rattle.laws.proofs.Places.{surfaces-counted, place-counted}
@@ -22,7 +22,7 @@ zero-byte (suc n) zero = refl
 zero-byte (suc n) (suc i) = zero-byte n i
 
 -- Number 6 looks at the first n bytes alone.
-taken-right : (n : ℕ) (bs : List ℕ) → bytesRight n (take n bs) ≡ bytesRight n bs
+taken-right : (n : ℕ) (bs : List ℕ) → bytesValid n (take n bs) ≡ bytesValid n bs
 taken-right zero bs = refl
 taken-right (suc n) [] = refl
 taken-right (suc n) (b ∷ bs) = rw (taken-right n bs)
@@ -41,11 +41,11 @@ module _ (S : Session) where
         ∙ ap (λ l. getD l (surfaceIndex S s) 0) (h .status)
         ∙ zero-byte (surfaceCount S) (surfaceIndex S s)
 
-    pub fresh-right : bytesRight (length (surfacesOf S)) (σ .status) ≡ true
+    pub fresh-right : bytesValid (length (surfacesOf S)) (σ .status) ≡ true
     fresh-right =
-        ap (λ n. bytesRight n (σ .status)) (surfaces-counted S)
+        ap (λ n. bytesValid n (σ .status)) (surfaces-counted S)
         ∙ sym (taken-right (surfaceCount S) (σ .status))
-        ∙ ap (bytesRight (surfaceCount S)) (h .status)
+        ∙ ap (bytesValid (surfaceCount S)) (h .status)
         ∙ bytes-fresh (surfaceCount S) (surfaceCount S) (omega arith)
 
     pub fresh-long : length (surfacesOf S) ≤ length (σ .status)

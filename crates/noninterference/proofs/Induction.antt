@@ -8,11 +8,11 @@ use lib.Dec.{ltb}
 use lib.ListN.{take}
 use Rattle.definition.specs.Session.{Session, Pass}
 use Rattle.definition.specs.Status.{filled}
-use Rattle.definition.specs.Verdict.{nowhere, isFine, refusedAt}
+use Rattle.definition.specs.Verdict.{nowhere, isAccepted, refusedAt}
 use Rattle.definition.specs.Check.{check}
 use Rattle.definition.specs.Attachments.{Attached, attachments}
 use Rattle.definition.specs.Pass.{newPass, passVerdict, refusal, roomVerdict, acceptedPass, refusedPass, outcome, checkPass}
-use Rattle.definition.specs.Calls.{State, Call, pass, submit, Step, Answer, checked, submitted, lentRight, passCall, passStep, submitStep, submitState, called, notLent, call, answers, after}
+use Rattle.definition.specs.Calls.{State, Call, pass, submit, Step, Answer, checked, submitted, lentValid, passCall, passStep, submitStep, submitState, called, notLent, call, answers, after}
 use Rattle.definition.specs.declared.Surface.{Surface}
 use Rattle.laws.specs.Surfaces.{Inside}
 use Rattle.laws.proofs.Verdicts.{then-left}
@@ -56,7 +56,7 @@ module _ {Val : Type 0} (D : Drawing Val) (left left′ : ℕ → Cells Val) (S 
         rest (passState xs σ) hs (ws ++ (w ∷ [])) m m′ (pass-inv D left left′ S xs so di σ n hs ws m m′ inv) in
         record { loads = g .loads; marks = g .marks; equal = g .equal }
 
-    after-accepted : (i : ℕ) → isFine (check S (S .pass i) .verdict) ≡ true
+    after-accepted : (i : ℕ) → isAccepted (check S (S .pass i) .verdict) ≡ true
         → After (pass i) (passStep (acceptedPass S (check S (S .pass i) .seen) (attachments S (S .pass i)) (σ .lists)) σ)
     after-accepted i e =
         let p : Pass = S .pass i in
@@ -65,12 +65,12 @@ module _ {Val : Type 0} (D : Drawing Val) (left left′ : ℕ → Cells Val) (S 
 
     after-check : (i : ℕ) → After (pass i) (passStep (checkPass S (S .pass i) (σ .lists)) σ)
     unfolding checkPass outcome
-    after-check i = go (isFine (passVerdict (check S p) (attachments S p) (σ .lists))) refl
+    after-check i = go (isAccepted (passVerdict (check S p) (attachments S p) (σ .lists))) refl
       where
         p : Pass
         p = S .pass i
 
-        go : (b : Bool) → isFine (passVerdict (check S p) (attachments S p) (σ .lists)) ≡ b
+        go : (b : Bool) → isAccepted (passVerdict (check S p) (attachments S p) (σ .lists)) ≡ b
             → After (pass i) (passStep (cond b (acceptedPass S (check S p .seen) (attachments S p) (σ .lists)) (refusedPass (passVerdict (check S p) (attachments S p) (σ .lists)) (σ .lists))) σ)
         go true e = after-accepted i (then-left (check S p .verdict) (roomVerdict (attachments S p) (newPass (σ .lists))) e)
         go false e = after-refused (pass i) (checked (refusal (passVerdict (check S p) (attachments S p) (σ .lists)))) (rw e)
@@ -97,7 +97,7 @@ module _ {Val : Type 0} (D : Drawing Val) (left left′ : ℕ → Cells Val) (S 
 
     after-call : (c : Call) → After c (call S c σ)
     unfolding call
-    after-call c = go (lentRight S σ)
+    after-call c = go (lentValid S σ)
       where
         go : (b : Bool) → After c (cond b (called S c σ) (notLent c σ))
         go true = after-called c

@@ -26,7 +26,7 @@ use Rattle.noninterference.specs.Memory.{Use, Told, Cells, Drawing, byte
 use Rattle.noninterference.specs.Claim.{Fresh, Agree, allDiscarded, later, lastUse, kept}
 use Rattle.noninterference.proofs.Spots.{Spot, spot, planSpot, kindByte, isNone, needs}
 use Rattle.noninterference.proofs.Plans.{plannedUse, partsOf, anyLoad, proper, plan-loads, plan-keeps, plan-discards, plan-settled}
-use Rattle.laws.specs.Room.{reaches}
+use Rattle.laws.specs.Separate.{reaches}
 use Rattle.noninterference.proofs.Passes.{find, All, Distinct, viaUse, viaFind, use-found, pass-spot, all-found, found-all}
 use Rattle.noninterference.proofs.Sound.{Sound, all-names, all-spreads}
 use Rattle.noninterference.proofs.Fresh.{fresh-byte, fresh-long}

@@ -10,15 +10,15 @@ use lib.ListN.{length}
 use borrow.Author.Tests.{leb-true, le-leb, lt-ltb}
 use Rattle.definition.specs.Sizes.{maxDiscards, maxActions, maxClears}
 use Rattle.definition.specs.Session.{Pass, Session, surfacesOf}
-use Rattle.definition.specs.Verdict.{nowhere, isFine, refusedAt, unless}
-use Rattle.definition.specs.Readable.{viewsRight}
+use Rattle.definition.specs.Verdict.{nowhere, isAccepted, refusedAt, unless}
+use Rattle.definition.specs.Readable.{viewsValid}
 use Rattle.definition.specs.Surfaces.{hits, firstOf, named}
 use Rattle.definition.specs.MemoryInit.{Lists, matching, registerInitAction, registered, discarded}
 use Rattle.definition.specs.Check.{check}
 use Rattle.definition.specs.Attachments.{Attached, rangeIn, kindOf, discards, attach, attachAll, attachments}
 use Rattle.definition.specs.Pass.{discardsFit, actionsFit, roomVerdict, newPass, passVerdict, acceptedPass, refusedPass, outcome, checkPass}
 use Rattle.definition.specs.Submission.{submitLists}
-use Rattle.definition.specs.Calls.{State, noEntries, Call, pass, submit, surfaceRight, rangeRight, surfacesRight, actionsRight, bytesRight, countsRight, lentRight, passCall, passStep, submitState, called, call, after}
+use Rattle.definition.specs.Calls.{State, noEntries, Call, pass, submit, surfaceValid, rangeValid, surfacesValid, actionsValid, bytesValid, countsValid, lentValid, passCall, passStep, submitState, called, call, after}
 use Rattle.definition.specs.Program.{line, endsBuffer, lines}
 use Rattle.definition.specs.declared.Range.{Range}
 use Rattle.definition.specs.declared.MemoryInitKind.{MemoryInitKind}
@@ -28,7 +28,7 @@ use Rattle.laws.proofs.Surfaces.{inside-range}
 use Rattle.laws.proofs.Verdicts.{then-left, then-right, unless-on}
 use Rattle.laws.proofs.Places.{surfaces-counted}
 use Rattle.laws.proofs.Submission.{submit-right, bytes-long}
-use Rattle.laws.proofs.Room.{clears-most, discards-fit}
+use Rattle.laws.proofs.Plans.{clears-most, discards-fit}
 use Rattle.laws.proofs.Lent.{surfaces-append, actions-append, surfaces-retain, first-right, implicits-right}
 use Rattle.noninterference.specs.Claim.{Fresh}
 use Rattle.noninterference.specs.Theorem.{lineOf, endState, printed}
@@ -41,63 +41,63 @@ use Rattle.noninterference.proofs.Accepted.{Ranged, accepted-okay, pass
 module _ (S : Session) where
   -- Lists whose records are right.
   record Right (l : Lists) : Type 0 where
-    discards : surfacesRight S (l .discards) ≡ true
-    actions : actionsRight S (l .actions) ≡ true
-    clears : surfacesRight S (l .clears) ≡ true
+    discards : surfacesValid S (l .discards) ≡ true
+    actions : actionsValid S (l .actions) ≡ true
+    clears : surfacesValid S (l .clears) ≡ true
 
-  registered-right : (r : Range) (k : Option MemoryInitKind) (l : Lists) → rangeRight S r ≡ true → Right l → Right (registered r k l)
+  registered-right : (r : Range) (k : Option MemoryInitKind) (l : Lists) → rangeValid S r ≡ true → Right l → Right (registered r k l)
   unfolding registerInitAction
   registered-right r none l g h = h
   registered-right r (some NeedsInitializedMemory) l g h = record {
     discards = surfaces-retain S (λ s. not (hits r s)) (l .discards) (h .discards);
     actions = actions-append S (l .actions) _
-        ∙ and-on (actionsRight S (l .actions)) _ (h .actions)
-        (and-on (rangeRight S r) _ g (implicits-right S (matching r (l .discards)) (surfaces-retain S (hits r) (l .discards) (h .discards))));
+        ∙ and-on (actionsValid S (l .actions)) _ (h .actions)
+        (and-on (rangeValid S r) _ g (implicits-right S (matching r (l .discards)) (surfaces-retain S (hits r) (l .discards) (h .discards))));
     clears = surfaces-append S (l .clears) (matching r (l .discards))
-        ∙ and-on (surfacesRight S (l .clears)) _ (h .clears) (surfaces-retain S (hits r) (l .discards) (h .discards));
+        ∙ and-on (surfacesValid S (l .clears)) _ (h .clears) (surfaces-retain S (hits r) (l .discards) (h .discards));
   }
   registered-right r (some ImplicitlyInitialized) l g h = record {
     discards = surfaces-retain S (λ s. not (hits r s)) (l .discards) (h .discards);
-    actions = actions-append S (l .actions) _ ∙ and-on (actionsRight S (l .actions)) _ (h .actions) (and-on (rangeRight S r) true g refl);
+    actions = actions-append S (l .actions) _ ∙ and-on (actionsValid S (l .actions)) _ (h .actions) (and-on (rangeValid S r) true g refl);
     clears = h .clears;
   }
 
-  discarded-right : (r : Range) (b : Bool) (l : Lists) → rangeRight S r ≡ true → Right l → Right (discarded r b l)
+  discarded-right : (r : Range) (b : Bool) (l : Lists) → rangeValid S r ≡ true → Right l → Right (discarded r b l)
   discarded-right r true l g h = record {
     discards = surfaces-append S (l .discards) (named r)
-        ∙ and-on (surfacesRight S (l .discards)) _ (h .discards) (and-on (surfaceRight S (firstOf r)) true (first-right S r g) refl);
+        ∙ and-on (surfacesValid S (l .discards)) _ (h .discards) (and-on (surfaceValid S (firstOf r)) true (first-right S r g) refl);
     actions = h .actions;
     clears = h .clears;
   }
   discarded-right r false l g h = h
 
-  attach-right : (x : Attached) (l : Lists) → rangeRight S (rangeIn x) ≡ true → Right l → Right (attach x l)
+  attach-right : (x : Attached) (l : Lists) → rangeValid S (rangeIn x) ≡ true → Right l → Right (attach x l)
   attach-right x l g h = discarded-right (rangeIn x) (discards x) (registered (rangeIn x) (kindOf x) l) g (registered-right (rangeIn x) (kindOf x) l g h)
 
 -- ── the ranges of an accepted pass are the session's
 
 abbrev RangeRight : Session → Attached → Type 0
-RangeRight S x = rangeRight S (rangeIn x) ≡ true
+RangeRight S x = rangeValid S (rangeIn x) ≡ true
 
 all-right : (S : Session) (xs : List Attached) (l : Lists) → All (RangeRight S) xs → Right S l → Right S (attachAll xs l)
 all-right S [] l a h = h
 all-right S (x ∷ xs) l a h = all-right S xs (attach x l) (a .1) (attach-right S x l (a .0) h)
 
-pass-right : (S : Session) → viewsRight S ≡ true → (p : Pass) → isFine (check S p .verdict) ≡ true → All (RangeRight S) (attachments S p)
+pass-right : (S : Session) → viewsValid S ≡ true → (p : Pass) → isAccepted (check S p .verdict) ≡ true → All (RangeRight S) (attachments S p)
 pass-right S vs p h = all-map (Ranged S) (RangeRight S) (λ x k. inside-range S (rangeIn x) (k .range)) (attachments S p) (accepted-okay S vs p h .ranged)
 
 -- ── what can be lent
 
-module _ (S : Session) (vs : viewsRight S ≡ true) where
+module _ (S : Session) (vs : viewsValid S ≡ true) where
   record Lendable (σ : State) : Type 0 where
     right : Right S (σ .lists)
     discards : length (σ .lists .discards) ≤ maxDiscards
     actions : length (σ .lists .actions) ≤ maxActions
     clears : length (σ .lists .clears) ≤ maxClears
-    status : bytesRight (length (surfacesOf S)) (σ .status) ≡ true
+    status : bytesValid (length (surfacesOf S)) (σ .status) ≡ true
 
-  lendable-right : (σ : State) → Lendable σ → lentRight S σ ≡ true
-  unfolding lentRight countsRight
+  lendable-right : (σ : State) → Lendable σ → lentValid S σ ≡ true
+  unfolding lentValid countsValid
   lendable-right σ h = simp (
     le-leb (length (σ .lists .discards)) maxDiscards (h .discards),
     le-leb (length (σ .lists .actions)) maxActions (h .actions),
@@ -105,10 +105,10 @@ module _ (S : Session) (vs : viewsRight S ≡ true) where
     h .right .discards,
     h .right .actions,
     h .right .clears,
-    ap (λ n. bytesRight n (σ .status)) (sym (surfaces-counted S)) ∙ h .status,
+    ap (λ n. bytesValid n (σ .status)) (sym (surfaces-counted S)) ∙ h .status,
   )
 
-  empty-lendable : (bytes : List ℕ) → bytesRight (length (surfacesOf S)) bytes ≡ true → Lendable (record { lists = noEntries; status = bytes })
+  empty-lendable : (bytes : List ℕ) → bytesValid (length (surfacesOf S)) bytes ≡ true → Lendable (record { lists = noEntries; status = bytes })
   empty-lendable bytes h = record {
     right = record { discards = refl; actions = refl; clears = refl };
     discards = omega arith;
@@ -132,7 +132,7 @@ module _ (S : Session) (vs : viewsRight S ≡ true) where
 
   pass-lendable : (p : Pass) (σ : State) → Lendable σ → Lendable (passStep (checkPass S p (σ .lists)) σ .state)
   unfolding checkPass outcome roomVerdict
-  pass-lendable p σ h = go (isFine (passVerdict (check S p) (attachments S p) (σ .lists))) refl
+  pass-lendable p σ h = go (isAccepted (passVerdict (check S p) (attachments S p) (σ .lists))) refl
     where
       xs : List Attached
       xs = attachments S p
@@ -140,10 +140,10 @@ module _ (S : Session) (vs : viewsRight S ≡ true) where
       l : Lists
       l = newPass (σ .lists)
 
-      fits : isFine (passVerdict (check S p) xs (σ .lists)) ≡ true → Lendable (record { lists = attachAll xs l; status = σ .status })
+      fits : isAccepted (passVerdict (check S p) xs (σ .lists)) ≡ true → Lendable (record { lists = attachAll xs l; status = σ .status })
       fits e =
-          let judged : isFine (check S p .verdict) ≡ true = then-left (check S p .verdict) (roomVerdict xs l) e in
-          let rm : isFine (roomVerdict xs l) ≡ true = then-right (check S p .verdict) (roomVerdict xs l) e in
+          let judged : isAccepted (check S p .verdict) ≡ true = then-left (check S p .verdict) (roomVerdict xs l) e in
+          let rm : isAccepted (roomVerdict xs l) ≡ true = then-right (check S p .verdict) (roomVerdict xs l) e in
           record {
             right = all-right S xs l (pass-right S vs p judged) (record { discards = h .right .discards; actions = h .right .actions; clears = refl });
             discards = discards-fit xs l (unless-on (discardsFit xs l) 49 nowhere refl (then-left (unless (discardsFit xs l) 49 nowhere) (unless (actionsFit xs l) 50 nowhere) rm)) (h .discards);
@@ -152,7 +152,7 @@ module _ (S : Session) (vs : viewsRight S ≡ true) where
             status = h .status;
           }
 
-      go : (b : Bool) → isFine (passVerdict (check S p) xs (σ .lists)) ≡ b
+      go : (b : Bool) → isAccepted (passVerdict (check S p) xs (σ .lists)) ≡ b
           → Lendable (passStep (cond b (acceptedPass S (check S p .seen) xs (σ .lists)) (refusedPass (passVerdict (check S p) xs (σ .lists)) (σ .lists))) σ .state)
       go true e = fits e
       go false e = record { right = h .right; discards = h .discards; actions = h .actions; clears = h .clears; status = h .status }
@@ -169,7 +169,7 @@ module _ (S : Session) (vs : viewsRight S ≡ true) where
   -- ── the calls
 
   -- A call that is lent what is right is not refused as 6.
-  pub call-called : (c : Call) (σ : State) → lentRight S σ ≡ true → call S c σ ≡ called S c σ
+  pub call-called : (c : Call) (σ : State) → lentValid S σ ≡ true → call S c σ ≡ called S c σ
   unfolding call
   call-called c σ h = rw (h, call)
 
@@ -182,7 +182,7 @@ module _ (S : Session) (vs : viewsRight S ≡ true) where
 
   -- From a fresh state.
   module _ (σ : State) (h : Fresh S σ) where
-    pub never-six : (cs : List Call) → lentRight S (after S cs σ) ≡ true
+    pub never-six : (cs : List Call) → lentValid S (after S cs σ) ≡ true
     never-six cs = lendable-right (after S cs σ) (after-lendable cs σ (fresh-lendable σ h))
 
     -- There is a status byte for each surface.

@@ -10,7 +10,7 @@ use Rattle.definition.specs.MemoryInit.{Lists}
 use Rattle.definition.specs.Attachments.{Attached, rangeIn, kindOf, discards, attach, attachAll}
 use Rattle.definition.specs.declared.Surface.{Surface}
 use Rattle.laws.proofs.Tests.{or-on-left, or-on-right}
-use Rattle.laws.specs.Room.{reaches, reached}
+use Rattle.laws.specs.Separate.{reaches, reached}
 use Rattle.noninterference.specs.Memory.{Use, useAt}
 use Rattle.noninterference.proofs.Spots.{Spot, spot, planSpot, apply-spot}
 use Rattle.noninterference.proofs.Plans.{plannedUse}

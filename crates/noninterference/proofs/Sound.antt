@@ -4,7 +4,7 @@ use mathlib.Core.Bool.{true}
 use mathlib.Core.List.{List, map}
 use Prim.Native.Nat.{ℕ}
 use Rattle.definition.specs.Session.{Session, Pass}
-use Rattle.definition.specs.Verdict.{isFine}
+use Rattle.definition.specs.Verdict.{isAccepted}
 use Rattle.definition.specs.Check.{check}
 use Rattle.definition.specs.Attachments.{Attached, attachments}
 use Rattle.definition.specs.Pass.{acceptance}
@@ -13,7 +13,7 @@ use Rattle.definition.specs.declared.Seen.{Seen}
 use Rattle.laws.specs.Surfaces.{Inside}
 use Rattle.noninterference.specs.Memory.{Aspect, hasAspect, passSlices, told}
 use Rattle.noninterference.proofs.Plans.{plannedUse, partsOf, hasPart, proper}
-use Rattle.laws.specs.Room.{reaches}
+use Rattle.laws.specs.Separate.{reaches}
 use Rattle.noninterference.proofs.Passes.{All, Distinct, Named, Spreads, all-map}
 
 -- An attachment: no DontCare; its discard names what its action reaches; its layers are that; it is inside the session; its parts are its format's aspects.
@@ -32,7 +32,7 @@ all-spreads S xs so = all-map (Sound S) Spreads (λ x h. h .spreads) xs so
 
 -- A session: of each accepted pass, sound attachments, no surface reached twice, and a reply that tells what the attachments do.
 pub record Fit (S : Session) : Type 0 where
-  pub sound : (p : Pass) → isFine (check S p .verdict) ≡ true → All (Sound S) (attachments S p)
-  pub distinct : (p : Pass) → isFine (check S p .verdict) ≡ true → Distinct (attachments S p)
-  pub tells : (p : Pass) → isFine (check S p .verdict) ≡ true → (n : ℕ) (q : Seen) (c : List Surface)
+  pub sound : (p : Pass) → isAccepted (check S p .verdict) ≡ true → All (Sound S) (attachments S p)
+  pub distinct : (p : Pass) → isAccepted (check S p .verdict) ≡ true → Distinct (attachments S p)
+  pub tells : (p : Pass) → isAccepted (check S p .verdict) ≡ true → (n : ℕ) (q : Seen) (c : List Surface)
       → told S n (passSlices S p) (acceptance S q (attachments S p) c) ≡ record { number = n; uses = map plannedUse (attachments S p); clears = c }

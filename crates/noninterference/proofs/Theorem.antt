@@ -5,7 +5,7 @@ use Prim.Native.Nat.{ℕ, _≤_}
 use borrow.Author.Tests.{leb-true, eq-eqb}
 use Rattle.definition.specs.Sizes.{maxSurfaces}
 use Rattle.definition.specs.Session.{Session, session, surfaceCount}
-use Rattle.definition.specs.Readable.{texturesRead, texturesRight, sessionRefusal}
+use Rattle.definition.specs.Readable.{texturesRead, texturesValid, sessionRefusal}
 use Rattle.definition.specs.Status.{cleared}
 use Rattle.definition.specs.Submission.{byteAfter}
 use Rattle.definition.specs.Calls.{State, Call, submit, submitState, call, after}
@@ -26,7 +26,7 @@ use Rattle.noninterference.proofs.Lendable as Lendable
 
 -- What 3 says of the surfaces of a readable session.
 counted : (s : List ℕ) → sessionRefusal s ≡ 0 → surfaceCount (session s) ≤ maxSurfaces
-unfolding texturesRight
+unfolding texturesValid
 counted s h = leb-true (surfaceCount (session s)) maxSurfaces (and-right (texturesRead (session s) (session s .textureCount)) _ (tested s h .textures))
 
 pub demand-three : DemandThree

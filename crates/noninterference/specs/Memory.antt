@@ -11,7 +11,7 @@ use Rattle.definition.specs.Bytes.{bit}
 use Rattle.definition.specs.Formats.{isColor, hasDepth, hasStencil}
 use Rattle.definition.specs.Surfaces.{layersOf, elem}
 use Rattle.definition.specs.Session.{Session, Pass, isNone, textureFormat, rangeOf, attachedSlice, surfaceIndex}
-use Rattle.definition.specs.Verdict.{isFine}
+use Rattle.definition.specs.Verdict.{isAccepted}
 use Rattle.definition.specs.Status.{cleared}
 use Rattle.definition.specs.Pass.{Reply}
 use Rattle.definition.specs.Calls.{Call, pass, submit, Answer, checked, submitted}
@@ -138,7 +138,7 @@ slicesOf S submit = []
 
 -- A refused call does nothing, a pass waits, a submission gives the status bytes.
 abbrev pub event : Session → ℕ → Call → Answer → Event
-event S n c (checked r) = cond (isFine (r .verdict)) (accepted (told S n (slicesOf S c) r)) refused
+event S n c (checked r) = cond (isAccepted (r .verdict)) (accepted (told S n (slicesOf S c) r)) refused
 event S n c (submitted number status) = cond (eqb number 0) (done status) refused
 
 -- The calls in order, from call n on, with their answers.

@@ -7,7 +7,7 @@ use lib.ListN.{take}
 use Rattle.definition.specs.Session.{Session, session, strict}
 use Rattle.definition.specs.Readable.{sessionRefusal}
 use Rattle.definition.specs.Status.{filled, cleared}
-use Rattle.definition.specs.Calls.{State, fresh, Call, pass, submit, Answer, checked, submitted, lentRight, call, answers, after}
+use Rattle.definition.specs.Calls.{State, fresh, Call, pass, submit, Answer, checked, submitted, lentValid, call, answers, after}
 use Rattle.definition.specs.Program.{line, endsBuffer, deskcheck}
 use Rattle.definition.specs.declared.Surface.{Surface}
 use Rattle.laws.specs.Surfaces.{Inside}
@@ -51,7 +51,7 @@ abbrev pub NeverSix : Type 0
 NeverSix =
     (s : List ℕ) → sessionRefusal s ≡ 0
     → (σ : State) → Fresh (session s) σ
-    → (calls : List Call) → lentRight (session s) (after (session s) calls σ) ≡ true
+    → (calls : List Call) → lentValid (session s) (after (session s) calls σ) ≡ true
 
 -- The definition's `fresh`, with as many status bytes as there may be surfaces, is fresh for every readable session.
 abbrev pub FreshStarts : Type 0

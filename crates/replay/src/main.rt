@@ -1,10 +1,10 @@
 // Replays a fixed list of sessions with the Rust's answers, read from standard input, and prints how many agree. harness/README.md
 // has the list's form: records of a session and the words of its answer.
-use answers::Place;
-use answers::WORD_BYTES;
-use answers::numbers;
-use answers::reply;
-use answers::word;
+use answer_words::Place;
+use answer_words::WORD_BYTES;
+use answer_words::numbers;
+use answer_words::reply;
+use answer_words::word;
 use definition::sizes::ACTIONS_BYTES;
 use definition::sizes::CLEARS_BYTES;
 use definition::sizes::DISCARDS_BYTES;
@@ -14,13 +14,13 @@ use definition::sizes::ROWS_BYTES;
 use desk::deskcheck_pass;
 use desk::deskcheck_session;
 use desk::deskcheck_submit;
+use encoding::u32_at;
 use libc::STDIN_FILENO;
 use libc::STDOUT_FILENO;
 use session::ends;
 use session::header::pass_count;
 use session::header::texture_count;
 use session::surfaces::surfaces_before;
-use wire::u32_at;
 ghost use mathlib.Core.Path.{_≡_};
 ghost use Prim.Native.Nat.{_≤_, _<_};
 ghost use lib.ListN.{length};

@@ -7,7 +7,7 @@ use native.Mathlib.Omega.{arith}
 use native.Mathlib.Nat.{mul-le-mul, suc-mul, zero-mul}
 use lib.Dec.{leb, eqb}
 use borrow.Author.Tests.{eq-eqb, leb-true, leb-false}
-use Rattle.wire.proofs.Bits.{shifted-out}
+use Rattle.encoding.proofs.Bits.{shifted-out}
 use Rattle.definition.specs.Formats.{mipSize}
 use Rattle.definition.specs.declared.Texture.{Texture}
 use Rattle.definition.specs.Sizes.{maxSurfaces}

@@ -7,7 +7,7 @@ use Rattle.definition.specs.Session.{passStart, viewAt}
 use Rattle.definition.specs.declared.Texture.{Texture}
 use Rattle.definition.specs.declared.Slot.{Slot}
 use Rattle.definition.specs.declared.View.{View}
-use Rattle.wire.specs.declared.Eight.{Eight}
+use Rattle.encoding.specs.declared.Eight.{Eight}
 use Rattle.session.specs.declared.SlotViews.{SlotViews}
 
 -- The first n texture rows lie inside.
@@ -27,12 +27,30 @@ textureOf row = record {
   usage = row .n7;
 }
 
+-- A view by the eight numbers of its row and its format.
+abbrev pub viewOf : Eight → ℕ → View
+viewOf row format = record {
+  texture = row .n0;
+  dimension = row .n1;
+  mip = row .n2;
+  mips = row .n3;
+  layer = row .n4;
+  layers = row .n5;
+  usage = row .n6;
+  resolvable = row .n7;
+  format = format;
+}
+
 -- View row k, after so many textures.
 abbrev pub viewRow : ℕ → ℕ → ℕ
 viewRow textures k = headerBytes + textureBytes * textures + viewBytes * k
 
 abbrev pub viewAfter : List ℕ → ℕ → ℕ → View
 viewAfter s textures k = viewAt s (viewRow textures k)
+
+-- The first n view rows lie inside, after so many textures.
+abbrev pub ViewsInside : ℕ → ℕ → List ℕ → Type 0
+ViewsInside textures n s = viewRow textures n ≤ length s
 
 -- A view without its format: what tells the surfaces that it takes.
 abbrev pub shapeOf : View → View

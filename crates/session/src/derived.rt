@@ -6,7 +6,7 @@ use definition::Range;
 use definition::Texture;
 use definition::View;
 use definition::sizes::NO_VIEW;
-use wire::has_bit;
+use encoding::has_bit;
 ghost use mathlib.Core.Path.{_≡_};
 ghost use Rattle.definition.specs.Session as Se;
 ghost use Rattle.definition.specs.Session.{session};

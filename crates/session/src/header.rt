@@ -1,5 +1,5 @@
 // The fields of a session file's header, by value. No function has a `requires`.
-use wire::u32_at;
+use encoding::u32_at;
 ghost use mathlib.Core.Path.{_≡_};
 ghost use Rattle.definition.specs.Session.{session};
 

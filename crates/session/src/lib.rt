@@ -1,5 +1,5 @@
 // The header and rows of a session file, by value. Every byte string and every number has an answer, since a byte past the end reads as 0;
-// only `texture_inside` and `surfaces::surface_offset` have a `requires`, which their callers know.
+// only `texture_inside`, `view_inside` and `surfaces::surface_offset` have a `requires`, which their callers know.
 // In `header` its fields, in `derived` and `surfaces` what follows from the rows, in `formats` the formats that they name.
 pub mod derived;
 pub mod formats;
@@ -17,19 +17,20 @@ use definition::sizes::SLOT_BYTES;
 use definition::sizes::SLOT_START;
 use definition::sizes::TEXTURE_BYTES;
 use definition::sizes::VIEW_BYTES;
+use encoding::Eight;
+use encoding::eight_at;
+use encoding::eight_inside;
+use encoding::f64_of_halves;
+use encoding::u32_at;
+use encoding::u32_inside;
 use header::TEXTURE_COUNT;
 use header::VIEW_COUNT;
 use header::texture_count;
-use wire::Eight;
-use wire::eight_at;
-use wire::eight_inside;
-use wire::f64_of_halves;
-use wire::u32_at;
 ghost use mathlib.Core.Path.{_≡_};
 ghost use Prim.Native.Nat.{_+_, _*_, _≤_};
 ghost use Rattle.definition.specs.Session as Se;
 ghost use Rattle.definition.specs.Session.{session};
-ghost use Rattle.session.specs.Rows.{RowsInside, textureOf, viewRow, viewAfter, shapeOf, passRow, slotRow, viewsOf};
+ghost use Rattle.session.specs.Rows.{RowsInside, ViewsInside, textureOf, viewOf, viewRow, viewAfter, shapeOf, passRow, slotRow, viewsOf};
 
 // The views of a colour slot and the slice of its colour view.
 pub struct SlotViews {
@@ -111,11 +112,10 @@ fn view_at(textures: u32, k: u32) -> usize
     HEADER_BYTES + TEXTURE_BYTES * (textures as usize) + VIEW_BYTES * (k as usize)
 }
 
-// View row k, after so many textures, without its format: what tells the surfaces that it takes.
-pub fn view_shape(s: &[u8], textures: u32, k: u32) -> View
-    ensures { λ r. ⌜ r ≡ shapeOf (viewAfter (now (s .entry)) textures k) ⌝ }
+// A view by the eight numbers of its row and its format.
+fn view_of(row: Eight, format: u32) -> View
+    ensures { λ r. ⌜ r ≡ viewOf row format ⌝ }
 {
-    let row = eight_at(s, view_at(textures, k));
     View {
         texture: row.n0,
         dimension: row.n1,
@@ -125,8 +125,24 @@ pub fn view_shape(s: &[u8], textures: u32, k: u32) -> View
         layers: row.n5,
         usage: row.n6,
         resolvable: row.n7,
-        format: 0,
+        format,
     }
+}
+
+// View row k, after so many textures, without its format: what tells the surfaces that it takes.
+pub fn view_shape(s: &[u8], textures: u32, k: u32) -> View
+    ensures { λ r. ⌜ r ≡ shapeOf (viewAfter (now (s .entry)) textures k) ⌝ }
+{
+    view_of(eight_at(s, view_at(textures, k)), 0)
+}
+
+// View row k, after so many textures, which lies inside.
+pub fn view_inside(s: &[u8], textures: u32, k: u32) -> View
+    requires { ⌜ ViewsInside textures (k + 1) (now s) ⌝ }
+    ensures { λ r. ⌜ r ≡ viewAfter (now (s .entry)) textures k ⌝ }
+{
+    let at = view_at(textures, k);
+    view_of(eight_inside(s, at), u32_inside(s, at + VIEW_FORMAT))
 }
 
 // The format of view row k.

@@ -5,8 +5,8 @@ use mathlib.Core.List.{List}
 use Prim.Native.Nat.{ℕ}
 use native.Mathlib.Omega.{arith}
 use lib.ListN.{take}
-use Rattle.print.specs.Held.{Enough, Holds}
-use Rattle.print.specs.Printed.{Printed}
+use Rattle.report.specs.Held.{Enough, Holds}
+use Rattle.report.specs.Printed.{Printed}
 use Rattle.streams.specs.Answered.{Answered}
 
 module _ {of-held : List ℕ → ℕ → ℕ → List ℕ} {of-file : List ℕ → List ℕ} where

@@ -4,8 +4,8 @@ use mathlib.Core.Bool.{Bool, true, false}
 use mathlib.Core.List.{List}
 use Prim.Native.Nat.{ℕ, _≤_}
 use lib.ListN.{length, take}
-use Rattle.print.specs.Held.{Enough, Holds}
-use Rattle.print.specs.Printed.{Printed}
+use Rattle.report.specs.Held.{Enough, Holds}
+use Rattle.report.specs.Printed.{Printed}
 
 -- The text of n bytes for what is read. A program says which it is: `of-held` for an input's first bytes, their number and its length,
 -- and `of-file` for a whole file.

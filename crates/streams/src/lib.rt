@@ -5,11 +5,11 @@
 // is the input's (`Holds`, of `print`), and that the bytes that are written reach standard output.
 use libc::STDIN_FILENO;
 use libc::STDOUT_FILENO;
-use print::past_length_field;
+use report::past_length_field;
 ghost use Prim.Native.Nat.{_+_, _≤_, _<_};
 ghost use lib.ListN.{length};
 ghost use Rattle.definition.specs.Sizes.{longestSession};
-ghost use Rattle.print.specs.Held.{Enough};
+ghost use Rattle.report.specs.Held.{Enough};
 
 // How many bytes were read, or are to be written, and whether a read failed.
 pub struct Bytes {

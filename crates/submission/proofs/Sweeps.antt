@@ -7,10 +7,10 @@ use mathlib.Core.Path.{_≡_, refl, sym, ap, ap₂, subst, _∙_}
 use mathlib.Core.Bool.{Bool, true, false, _&&_, _||_, cond, and-false}
 use mathlib.Core.List.{List, [], _∷_, _++_}
 use lib.Dec.{leb, ltb, eqb}
-use lib.ListN.{length, getD, set, take}
+use lib.ListN.{length, getD, set, take, drop}
 use lib.Seq.{take-all, length-take-le}
 use borrow.Author.Tests.{leb-true, ltb-true, eqb-true, eqb-false, le-leb, lt-ltb}
-use Rattle.definition.specs.Sizes.{surfaceNumbers, actionNumbers}
+use Rattle.definition.specs.Sizes.{surfaceBytes, actionBytes, countBytes}
 use Rattle.definition.specs.Surfaces.{surfaceAt, rangeAt, same, within, hits}
 use Rattle.definition.specs.Session.{Session, arrayLayers, mipsBefore, surfaceCount, surfaceIndex, surfacesOf}
 use Rattle.definition.specs.Status.{restart, actByte, emptyByte}
@@ -20,6 +20,7 @@ use Rattle.definition.specs.declared.Texture.{Texture}
 use Rattle.definition.specs.declared.Range.{Range}
 use Rattle.definition.specs.declared.Action.{Action}
 use Rattle.definition.specs.declared.MemoryInitKind.{MemoryInitKind}
+use Rattle.laws.specs.Plans.{actionOf}
 use Rattle.laws.specs.Surfaces.{Inside, RangeInside}
 use Rattle.laws.specs.Submission.{sweep, actAt, emptyAt, sweepActs}
 use Rattle.laws.proofs.Tests.{or-factor, bool-iff, and-left, and-right, and-on, or-on-left, or-on-right}
@@ -30,7 +31,7 @@ use Rattle.laws.proofs.Places.{surfaces-counted, place-counted}
 use Rattle.laws.proofs.Submission.{sweep-length, sweep-past, sweep-turn, sweep-same, sweep-either, sweep-only, sweeps-append, empties-append, submit-sweeps}
 use Rattle.laws.specs.Records.{records}
 use Rattle.laws.proofs.Records.{records-suc}
-use Rattle.records.specs.Lent.{decodeSurface, decodeAction, actionOf, surfaces, surfaceIn, actions, actionIn}
+use Rattle.lists.specs.Lists.{surfaceOf, actionOfBytes, countIn, surfacesIn, actionsIn, surfaceIn, actionIn}
 use Rattle.submission.specs.Runs.{run, firstMips, mipOf}
 
 -- ── ranges, one layer and one mip further
@@ -212,42 +213,50 @@ restart-all S bytes room =
     restart-sweeps (surfacesOf S) (surfaceCount S) bytes (omega (arith, surfaces-counted S)) (omega (arith, surfaces-counted S))
     ∙ ap (λ ss. sweep (λ s b. restart b) ss bytes) (take-all (surfaceCount S) (surfacesOf S) (omega (arith, surfaces-counted S)))
 
+-- The first n records of a lent list.
+abbrev pub firstActions : ℕ → List ℕ → List Action
+firstActions n b = records actionBytes actionOfBytes n (drop countBytes b)
+
+abbrev pub firstSurfaces : ℕ → List ℕ → List Surface
+firstSurfaces n b = records surfaceBytes surfaceOf n (drop countBytes b)
+
+-- No action and no discard.
+pub actions-none : (S : Session) (l bytes : List ℕ) → bytes ≡ sweepActs (firstActions 0 l) (surfacesOf S) bytes
+unfolding records
+actions-none S l bytes = refl
+
+pub discards-none : (S : Session) (l bytes : List ℕ) → bytes ≡ sweep (emptyAt (firstSurfaces 0 l)) (surfacesOf S) bytes
+unfolding records
+discards-none S l bytes = sym (sweep-idle (emptyAt []) (λ s b. refl) (surfacesOf S) bytes)
+
 -- One action more.
 pub action-further : (S : Session) (l : List ℕ) (i : ℕ) (r : Range) (k : MemoryInitKind) (bytes₀ bytes bytes′ : List ℕ) → r ≡ actionIn i l .range → k ≡ actionIn i l .kind
-    → bytes ≡ sweepActs (actions i l) (surfacesOf S) bytes₀ → bytes′ ≡ sweep (actAt (actionOf r k)) (surfacesOf S) bytes → bytes′ ≡ sweepActs (actions (i + 1) l) (surfacesOf S) bytes₀
+    → bytes ≡ sweepActs (firstActions i l) (surfacesOf S) bytes₀ → bytes′ ≡ sweep (actAt (actionOf r k)) (surfacesOf S) bytes → bytes′ ≡ sweepActs (firstActions (i + 1) l) (surfacesOf S) bytes₀
 action-further S l i r k bytes₀ bytes bytes′ er ek e e′ =
     e′
     ∙ (λ q. sweep (actAt (actionOf (er q) (ek q))) (surfacesOf S) (e q))
-    ∙ sym (sweeps-append (actions i l) (actionIn i l ∷ []) (surfacesOf S) bytes₀)
-    ∙ ap (λ a. sweepActs a (surfacesOf S) bytes₀) (sym (records-suc actionNumbers decodeAction i l) ∙ ap (λ (q : ℕ). actions q l) (sym (add-one i)))
+    ∙ sym (sweeps-append (firstActions i l) (actionIn i l ∷ []) (surfacesOf S) bytes₀)
+    ∙ ap (λ a. sweepActs a (surfacesOf S) bytes₀) (sym (records-suc actionBytes actionOfBytes i (drop countBytes l)) ∙ ap (λ (q : ℕ). firstActions q l) (sym (add-one i)))
 
 -- One discard more.
 pub discard-further : (S : Session) (l : List ℕ) (i at b : ℕ) (s : Surface) (bytes₀ bytes : List ℕ) → s ≡ surfaceIn i l → Inside S s → surfaceCount S ≤ length bytes₀
-    → bytes ≡ sweep (emptyAt (surfaces i l)) (surfacesOf S) bytes₀ → at ≡ surfaceIndex S s → b ≡ emptyByte (getD bytes at 0)
-    → set bytes at b ≡ sweep (emptyAt (surfaces (i + 1) l)) (surfacesOf S) bytes₀
+    → bytes ≡ sweep (emptyAt (firstSurfaces i l)) (surfacesOf S) bytes₀ → at ≡ surfaceIndex S s → b ≡ emptyByte (getD bytes at 0)
+    → set bytes at b ≡ sweep (emptyAt (firstSurfaces (i + 1) l)) (surfacesOf S) bytes₀
 discard-further S l i at b s bytes₀ bytes es ok room e ea eb =
     ap (set bytes at) eb
     ∙ (λ q. set (e q) (ea q) (emptyByte (getD (e q) (ea q) 0)))
-    ∙ sym (sweep-only S emptyByte s ok so-far (omega (arith, sweep-length (emptyAt (surfaces i l)) (surfacesOf S) bytes₀)))
+    ∙ sym (sweep-only S emptyByte s ok so-far (omega (arith, sweep-length (emptyAt (firstSurfaces i l)) (surfacesOf S) bytes₀)))
     ∙ sweep-same (λ t c. cond (same t s) (emptyByte c) c) (emptyAt (s ∷ [])) (λ t c. ap (λ q. cond q (emptyByte c) c) (sym (or-false (same t s)))) (surfacesOf S) so-far
-    ∙ empties-append (surfaces i l) (s ∷ []) (surfacesOf S) bytes₀
-    ∙ ap (λ d. sweep (emptyAt d) (surfacesOf S) bytes₀) (ap (λ x. surfaces i l ++ (x ∷ [])) es ∙ sym (records-suc surfaceNumbers decodeSurface i l) ∙ ap (λ (q : ℕ). surfaces q l) (sym (add-one i)))
+    ∙ empties-append (firstSurfaces i l) (s ∷ []) (surfacesOf S) bytes₀
+    ∙ ap (λ d. sweep (emptyAt d) (surfacesOf S) bytes₀)
+    (ap (λ x. firstSurfaces i l ++ (x ∷ [])) es ∙ sym (records-suc surfaceBytes surfaceOf i (drop countBytes l)) ∙ ap (λ (q : ℕ). firstSurfaces q l) (sym (add-one i)))
   where
     so-far : List ℕ
-    so-far = sweep (emptyAt (surfaces i l)) (surfacesOf S) bytes₀
+    so-far = sweep (emptyAt (firstSurfaces i l)) (surfacesOf S) bytes₀
 
     or-false : (a : Bool) → (a || false) ≡ a
     or-false true = refl
     or-false false = refl
-
--- No action and no discard.
-pub actions-none : (S : Session) (l bytes : List ℕ) → bytes ≡ sweepActs (actions 0 l) (surfacesOf S) bytes
-unfolding records
-actions-none S l bytes = refl
-
-pub discards-none : (S : Session) (l bytes : List ℕ) → bytes ≡ sweep (emptyAt (surfaces 0 l)) (surfacesOf S) bytes
-unfolding records
-discards-none S l bytes = sym (sweep-idle (emptyAt []) (λ s b. refl) (surfacesOf S) bytes)
 
 -- The whole.
 pub submit-all : (S : Session) (a : List Action) (d : List Surface) (bytes b₁ b₂ b₃ : List ℕ) (n : ℕ) → surfaceCount S ≤ length bytes → n ≡ surfaceCount S → b₁ ≡ run restart 0 n bytes
@@ -256,3 +265,11 @@ submit-all S a d bytes b₁ b₂ b₃ n room e₀ e₁ e₂ e₃ =
     e₃
     ∙ ap (sweep (emptyAt d) (surfacesOf S)) (e₂ ∙ ap (sweepActs a (surfacesOf S)) (e₁ ∙ ap (λ (q : ℕ). run restart 0 q bytes) e₀ ∙ restart-all S bytes room))
     ∙ sym (submit-sweeps a d (surfacesOf S) bytes)
+
+-- The whole of two empty lists: the bytes begin.
+pub submit-none : (S : Session) (d a bytes b₁ : List ℕ) (n : ℕ) → surfaceCount S ≤ length bytes → countIn d ≡ 0 → countIn a ≡ 0 → n ≡ surfaceCount S → b₁ ≡ run restart 0 n bytes
+    → b₁ ≡ submitBytes (actionsIn a) (surfacesIn d) (surfacesOf S) bytes
+submit-none S d a bytes b₁ n room ed ea e₀ e₁ =
+    submit-all S (actionsIn a) (surfacesIn d) bytes b₁ b₁ b₁ n room e₀ e₁
+    (actions-none S a b₁ ∙ ap (λ (q : ℕ). sweepActs (firstActions q a) (surfacesOf S) b₁) (sym ea))
+    (discards-none S d b₁ ∙ ap (λ (q : ℕ). sweep (emptyAt (firstSurfaces q d)) (surfacesOf S) b₁) (sym ed))

@@ -4,13 +4,13 @@ use mathlib.Core.Path.{_≡_}
 use mathlib.Core.Bool.{true}
 use mathlib.Core.List.{List}
 use lib.ListN.{length, getD, set}
-use Rattle.definition.specs.Sizes.{maxTextures, maxSurfaces, surfaceNumbers, actionNumbers, listBytes}
+use Rattle.definition.specs.Sizes.{maxTextures, maxSurfaces, surfaceBytes, actionBytes, listBytes}
 use Rattle.definition.specs.Surfaces.{rangeAt}
-use Rattle.definition.specs.Session.{Session, surfacesBefore, surfaceCount}
-use Rattle.definition.specs.Calls.{surfacesRight, actionsRight}
+use Rattle.definition.specs.Session.{session, surfacesBefore, surfaceCount}
+use Rattle.definition.specs.Calls.{surfacesValid, actionsValid}
 use Rattle.definition.specs.declared.Range.{Range}
-use Rattle.lent.specs.Packed.{countIn}
-use Rattle.lent.specs.State.{surfacesIn, actionsIn}
+use Rattle.session.specs.Rows.{RowsInside}
+use Rattle.lists.specs.Lists.{countIn, surfacesIn, actionsIn}
 
 -- A function of the byte, at n bytes from a place on.
 unfoldable pub run : (ℕ → ℕ) → ℕ → ℕ → List ℕ → List ℕ
@@ -24,17 +24,20 @@ firstMips r n = rangeAt (r .texture) (r .mip) n (r .layer) (r .layers) (r .slice
 abbrev pub mipOf : Range → ℕ → Range
 mipOf r m = rangeAt (r .texture) (r .mip + m) 1 (r .layer) (r .layers) (r .slice)
 
--- The number of surfaces before each texture.
-pub record Bases (S : Session) (bases : List ℕ) : Type 0 where
-  pub long : S .textureCount ≤ length bases
-  pub before : (k : ℕ) → k < S .textureCount → getD bases k 0 ≡ surfacesBefore S k
+-- The number of surfaces before each texture, of a session whose texture rows lie inside and which has no more surfaces than it may.
+pub record Bases (s bases : List ℕ) : Type 0 where
+  pub rows : RowsInside (session s .textureCount) s
+  pub surfaces : surfaceCount (session s) ≤ maxSurfaces
+  pub long : session s .textureCount ≤ length bases
+  pub before : (k : ℕ) → k < session s .textureCount → getD bases k 0 ≡ surfacesBefore (session s) k
 
 -- A session that is not refused, lent lists of its records, and a byte for each of its surfaces.
-pub record Submits (S : Session) (d a b : List ℕ) : Type 0 where
-  pub textures : S .textureCount ≤ maxTextures
-  pub surfaces : surfaceCount S ≤ maxSurfaces
-  pub status : surfaceCount S ≤ length b
-  pub discards-long : listBytes surfaceNumbers (countIn d) ≤ length d
-  pub actions-long : listBytes actionNumbers (countIn a) ≤ length a
-  pub discards : surfacesRight S (surfacesIn d) ≡ true
-  pub actions : actionsRight S (actionsIn a) ≡ true
+pub record Submits (s d a b : List ℕ) : Type 0 where
+  pub rows : RowsInside (session s .textureCount) s
+  pub textures : session s .textureCount ≤ maxTextures
+  pub surfaces : surfaceCount (session s) ≤ maxSurfaces
+  pub status : surfaceCount (session s) ≤ length b
+  pub discards-long : listBytes surfaceBytes (countIn d) ≤ length d
+  pub actions-long : listBytes actionBytes (countIn a) ≤ length a
+  pub discards : surfacesValid (session s) (surfacesIn d) ≡ true
+  pub actions : actionsValid (session s) (actionsIn a) ≡ true

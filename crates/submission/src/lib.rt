@@ -4,28 +4,29 @@ use definition::MemoryInitKind;
 use definition::Range;
 use definition::Surface;
 use definition::sizes::MAX_TEXTURES;
-use lent::right::kind_in;
-use lent::right::range_in;
-use lent::right::surface_in;
+use lists::count;
+use lists::kind_at;
+use lists::range_at;
+use lists::surface_at;
 use session::header::texture_count;
 use session::surfaces::surface_offset;
+use session::surfaces::surfaces_before;
 use session::surfaces::surfaces_in;
-use session::texture;
-use wire::u32_at;
+use session::texture_inside;
 ghost use mathlib.Core.Path.{_≡_};
+ghost use mathlib.Core.Bool.{true};
 ghost use Prim.Native.Nat.{_+_, _≤_, _<_};
 ghost use lib.ListN.{length};
-ghost use Rattle.definition.specs.Sizes.{maxSurfaces, surfaceNumbers, actionNumbers, listBytes};
+ghost use Rattle.definition.specs.Sizes.{maxSurfaces, surfaceBytes, actionBytes, listBytes};
 ghost use Rattle.definition.specs.Session.{session, surfaceCount, surfaceIndex, surfacesOf};
 ghost use Rattle.definition.specs.Status as Status;
 ghost use Rattle.definition.specs.Submission.{submitBytes};
-ghost use Rattle.definition.specs.Calls.{surfacesRight, actionsRight};
+ghost use Rattle.definition.specs.Calls.{surfacesValid, actionsValid};
+ghost use Rattle.laws.specs.Plans.{actionOf};
 ghost use Rattle.laws.specs.Surfaces.{Inside, RangeInside};
 ghost use Rattle.laws.specs.Submission.{sweep, actAt, emptyAt, sweepActs};
-ghost use Rattle.records.specs.Lent.{actionOf};
-ghost use Rattle.lent.specs.Packed.{countIn};
-ghost use Rattle.lent.specs.State.{surfacesIn, actionsIn};
-ghost use mathlib.Core.Bool.{true};
+ghost use Rattle.session.specs.Rows.{RowsInside};
+ghost use Rattle.lists.specs.Lists.{countIn, surfacesIn, actionsIn};
 ghost use Rattle.submission.specs.Runs.{run, mipOf, Bases, Submits};
 
 // A number as an index.
@@ -96,14 +97,23 @@ fn act_run(status: &mut [u8], at: usize, n: usize, kind: MemoryInitKind)
     }
 }
 
+// How many surfaces the session has.
+fn surface_count(s: &[u8]) -> usize
+    requires { ⌜ surfaceCount (session (now s)) ≤ maxSurfaces ⌝ }
+    ensures { λ r. ⌜ r ≡ surfaceCount (session (now (s .entry))) ⌝ }
+{
+    surfaces_before(s, texture_count(s)) as usize
+}
+
 // The number of surfaces before each texture goes to its place in `bases`; the answer is that of all surfaces.
 fn texture_bases(s: &[u8], bases: &mut [usize]) -> usize
     requires { ⌜
-        (session (now s) .textureCount ≤ length (now bases))
-        × (surfaceCount (session (now s)) ≤ maxSurfaces) ⌝ }
+        (let S = session (now s) in
+        RowsInside (S .textureCount) (now s)
+        × ((S .textureCount ≤ length (now bases)) × (surfaceCount S ≤ maxSurfaces))) ⌝ }
     ensures { λ r. ⌜
         (r ≡ surfaceCount (session (now (s .entry))))
-        × Bases (session (now (s .entry))) (now (bases .exit)) ⌝ }
+        × Bases (now (s .entry)) (now (bases .exit)) ⌝ }
 {
     let n = texture_count(s);
     let mut sum: usize = 0;
@@ -111,7 +121,7 @@ fn texture_bases(s: &[u8], bases: &mut [usize]) -> usize
     while k < n {
         let at = wide(k);
         bases[at] = sum;
-        sum += surfaces_in(texture(s, k)) as usize;
+        sum += surfaces_in(texture_inside(s, k)) as usize;
         k += 1;
     }
     sum
@@ -119,13 +129,11 @@ fn texture_bases(s: &[u8], bases: &mut [usize]) -> usize
 
 // A surface's place among the status bytes: behind the textures before its own.
 fn surface_index(s: &[u8], bases: &[usize], x: Surface) -> usize
-    requires { ⌜
-        (let S = session (now s) in
-        Bases S (now bases) × (Inside S x × (surfaceCount S ≤ maxSurfaces))) ⌝ }
+    requires { ⌜ Bases (now s) (now bases) × Inside (session (now s)) x ⌝ }
     ensures { λ r. ⌜ r ≡ surfaceIndex (session (now (s .entry))) x ⌝ }
 {
     let at = wide(x.texture);
-    let offset = surface_offset(texture(s, x.texture), x);
+    let offset = surface_offset(texture_inside(s, x.texture), x);
     bases[at] + offset as usize
 }
 
@@ -133,10 +141,8 @@ fn surface_index(s: &[u8], bases: &[usize], x: Surface) -> usize
 fn act_mip(s: &[u8], bases: &[usize], status: &mut [u8], range: Range, m: u32, kind: MemoryInitKind)
     requires { ⌜
         (let S = session (now s) in
-        Bases S (now bases)
-        × (RangeInside S range
-        × ((m < range .mips)
-        × ((surfaceCount S ≤ maxSurfaces) × (surfaceCount S ≤ length (now status)))))) ⌝ }
+        Bases (now s) (now bases)
+        × (RangeInside S range × ((m < range .mips) × (surfaceCount S ≤ length (now status))))) ⌝ }
     ensures { λ _. ⌜
         (let S = session (now (s .entry)) in
         now (status .exit) ≡ sweep (actAt (actionOf (mipOf range m) kind)) (surfacesOf S) (now (status .entry))) ⌝ }
@@ -159,9 +165,7 @@ fn act_mip(s: &[u8], bases: &[usize], status: &mut [u8], range: Range, m: u32, k
 fn act(s: &[u8], bases: &[usize], status: &mut [u8], range: Range, kind: MemoryInitKind)
     requires { ⌜
         (let S = session (now s) in
-        Bases S (now bases)
-        × (RangeInside S range
-        × ((surfaceCount S ≤ maxSurfaces) × (surfaceCount S ≤ length (now status))))) ⌝ }
+        Bases (now s) (now bases) × (RangeInside S range × (surfaceCount S ≤ length (now status)))) ⌝ }
     ensures { λ _. ⌜
         (let S = session (now (s .entry)) in
         now (status .exit) ≡ sweep (actAt (actionOf range kind)) (surfacesOf S) (now (status .entry))) ⌝ }
@@ -177,18 +181,18 @@ fn act(s: &[u8], bases: &[usize], status: &mut [u8], range: Range, kind: MemoryI
 fn run_actions(s: &[u8], bases: &[usize], status: &mut [u8], b: &[u8])
     requires { ⌜
         (let S = session (now s) in
-        Bases S (now bases)
-        × ((actionsRight S (actionsIn (now b)) ≡ true)
-        × ((listBytes actionNumbers (countIn (now b)) ≤ length (now b))
-        × ((surfaceCount S ≤ maxSurfaces) × (surfaceCount S ≤ length (now status)))))) ⌝ }
+        Bases (now s) (now bases)
+        × ((actionsValid S (actionsIn (now b)) ≡ true)
+        × ((listBytes actionBytes (countIn (now b)) ≤ length (now b))
+        × (surfaceCount S ≤ length (now status))))) ⌝ }
     ensures { λ _. ⌜
         (let S = session (now (s .entry)) in
         now (status .exit) ≡ sweepActs (actionsIn (now (b .entry))) (surfacesOf S) (now (status .entry))) ⌝ }
 {
-    let n = wide(u32_at(b, 0));
+    let n = count(b);
     let mut i: usize = 0;
     while i < n {
-        act(s, bases, status, range_in(b, i), kind_in(b, i));
+        act(s, bases, status, range_at(b, i), kind_at(b, i));
         i += 1;
     }
 }
@@ -197,34 +201,50 @@ fn run_actions(s: &[u8], bases: &[usize], status: &mut [u8], b: &[u8])
 fn run_discards(s: &[u8], bases: &[usize], status: &mut [u8], b: &[u8])
     requires { ⌜
         (let S = session (now s) in
-        Bases S (now bases)
-        × ((surfacesRight S (surfacesIn (now b)) ≡ true)
-        × ((listBytes surfaceNumbers (countIn (now b)) ≤ length (now b))
-        × ((surfaceCount S ≤ maxSurfaces) × (surfaceCount S ≤ length (now status)))))) ⌝ }
+        Bases (now s) (now bases)
+        × ((surfacesValid S (surfacesIn (now b)) ≡ true)
+        × ((listBytes surfaceBytes (countIn (now b)) ≤ length (now b))
+        × (surfaceCount S ≤ length (now status))))) ⌝ }
     ensures { λ _. ⌜
         (let S = session (now (s .entry)) in
         now (status .exit) ≡ sweep (emptyAt (surfacesIn (now (b .entry)))) (surfacesOf S) (now (status .entry))) ⌝ }
 {
-    let n = wide(u32_at(b, 0));
+    let n = count(b);
     let mut i: usize = 0;
     while i < n {
-        let at = surface_index(s, bases, surface_in(b, i));
+        let at = surface_index(s, bases, surface_at(b, i));
         status[at] = empty_byte(status[at]);
         i += 1;
     }
 }
 
-// A submission of two lent lists, read where they stand; bytes past the last surface are neither read nor written.
-pub fn submit(s: &[u8], discards: &[u8], actions: &[u8], status: &mut [u8])
-    requires { ⌜ Submits (session (now s)) (now discards) (now actions) (now status) ⌝ }
+// A submission of lists with an entry: the bytes begin, then the actions run, then the discards.
+fn submit_listed(s: &[u8], discards: &[u8], actions: &[u8], status: &mut [u8])
+    requires { ⌜ Submits (now s) (now discards) (now actions) (now status) ⌝ }
     ensures { λ _. ⌜
         (let d = surfacesIn (now (discards .entry)) in
         let a = actionsIn (now (actions .entry)) in
         now (status .exit) ≡ submitBytes a d (surfacesOf (session (now (s .entry)))) (now (status .entry))) ⌝ }
 {
     let mut bases: [usize; MAX_TEXTURES as usize] = [0; MAX_TEXTURES as usize];
-    let count = texture_bases(s, &mut bases);
-    restart_bytes(status, count);
+    let n = texture_bases(s, &mut bases);
+    restart_bytes(status, n);
     run_actions(s, &bases, status, actions);
     run_discards(s, &bases, status, discards);
+}
+
+// A submission of two lent lists, read where they stand; bytes past the last surface are neither read nor written. Where both lists are
+// empty the bytes begin, and no surface's place is asked for.
+pub fn submit(s: &[u8], discards: &[u8], actions: &[u8], status: &mut [u8])
+    requires { ⌜ Submits (now s) (now discards) (now actions) (now status) ⌝ }
+    ensures { λ _. ⌜
+        (let d = surfacesIn (now (discards .entry)) in
+        let a = actionsIn (now (actions .entry)) in
+        now (status .exit) ≡ submitBytes a d (surfacesOf (session (now (s .entry)))) (now (status .entry))) ⌝ }
+{
+    if (count(discards) == 0) & (count(actions) == 0) {
+        restart_bytes(status, surface_count(s));
+        return;
+    }
+    submit_listed(s, discards, actions, status);
 }

@@ -5,7 +5,7 @@ use borrow.Author.Needs.{needs}
 use native.Mathlib.Omega.{arith}
 use lib.ListN.{take, length-take}
 use Rattle.definition.specs.Readable.{sessionRefusal}
-use Rattle.print.proofs.Put.{printed-as}
+use Rattle.report.proofs.Put.{printed-as}
 use Rattle.column_files.proofs.Written.{readable-held, refused-held, readable-file, refused-file}
 use Rattle.column_files.proofs.write_file.Statement.{statement}
 use Rattle.column_files.proofs.write_file.Tie as tie

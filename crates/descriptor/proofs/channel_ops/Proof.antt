@@ -30,7 +30,7 @@ returns c =
     let c20 = c19 .before in
     let c21 = c20 .before in
     let a = c21 .before .args in
-    simp (c .then4 .ensures, c .before .then3 .ensures, c .before .before .then2 .ensures, c .before .before .before .then .ensures, c4 .verdict2 .ensures, c5 .stencil-resolved .ensures, c6 .verdict .ensures, c7 .depth-resolved .ensures, c8 .either2 .ensures, c9 .fine2 .ensures, transient-of (St.channelIn (c12 .stencil-channel .result)) (stencilChannel (a .stencil)) 16 17 (c12 .stencil-channel .ensures) (c11 .asked2 .ensures) (c10 .check-transient2 .ensures), c13 .either .ensures, c14 .fine .ensures, transient-of (De.channelIn (c17 .depth-channel .result)) (depthChannel (a .depth)) 14 15 (c17 .depth-channel .ensures) (c16 .asked .ensures) (c15 .check-transient .ensures), c18 .unless .ensures, c19 .is-depth-stencil .ensures, c20 .has-stencil .ensures, c21 .has-depth .ensures)
+    simp (c .then4 .ensures, c .before .then3 .ensures, c .before .before .then2 .ensures, c .before .before .before .then .ensures, c4 .verdict2 .ensures, c5 .stencil-resolved .ensures, c6 .verdict .ensures, c7 .depth-resolved .ensures, c8 .either2 .ensures, c9 .accepted2 .ensures, transient-of (St.channelIn (c12 .stencil-channel .result)) (stencilChannel (a .stencil)) 16 17 (c12 .stencil-channel .ensures) (c11 .asked2 .ensures) (c10 .check-transient2 .ensures), c13 .either .ensures, c14 .accepted .ensures, transient-of (De.channelIn (c17 .depth-channel .result)) (depthChannel (a .depth)) 14 15 (c17 .depth-channel .ensures) (c16 .asked .ensures) (c15 .check-transient .ensures), c18 .unless .ensures, c19 .is-depth-stencil .ensures, c20 .has-stencil .ensures, c21 .has-depth .ensures)
 
 pub channel-ops-spec : {M : Type 1} → statement M
 channel-ops-spec =

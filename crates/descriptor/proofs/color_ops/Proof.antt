@@ -17,14 +17,14 @@ abbrev μ-loop : tie.MeasureT-loop
 
 loop-holds : tie.Need-loop-holds Inv-loop μ-loop
 unfolding colorOps
-loop-holds c = (c .fine .ensures, omega arith)
+loop-holds c = (c .accepted .ensures, omega arith)
 
 loop-again : tie.Need-loop-again Inv-loop μ-loop
 unfolding colorOps
 loop-again c =
     let c4 = c .before .before .before .before in
     let c5 = c4 .before in
-    (rw add-one (simp (c .then .ensures, c .before .slot-ops .ensures, c .before .before .slot .ensures, c5 .fine .ensures, c4 .loop .inv .0)), omega arith)
+    (rw add-one (simp (c .then .ensures, c .before .slot-ops .ensures, c .before .before .slot .ensures, c5 .accepted .ensures, c4 .loop .inv .0)), omega arith)
 
 returns : tie.Need-returns Inv-loop μ-loop
 returns c =

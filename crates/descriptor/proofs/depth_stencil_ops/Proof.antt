@@ -1,4 +1,4 @@
--- Without a view it is fine; with one it is the definition of that view's format.
+-- Without a view it is accepted; with one it is the definition of that view's format.
 use mathlib.Core.Path.{sym, _∙_}
 use Rattle.definition.specs.Check.{depthStencilOps}
 use borrow.Author.Needs.{needs}
@@ -7,7 +7,7 @@ use Rattle.descriptor.proofs.depth_stencil_ops.Tie as tie
 
 returns : tie.Need-returns
 unfolding depthStencilOps
-returns c = simp (c .fine .ensures, c .before .before .is-none .ensures, c .before .before .before .depth-stencil .ensures, simp (c .before .before .before .depth-stencil .ensures) at (sym (c .before .before .is-none .ensures) ∙ c .before .if1 .taken))
+returns c = simp (c .accepted .ensures, c .before .before .is-none .ensures, c .before .before .before .depth-stencil .ensures, simp (c .before .before .before .depth-stencil .ensures) at (sym (c .before .before .is-none .ensures) ∙ c .before .if1 .taken))
 
 returns-2 : tie.Need-returns-2
 unfolding depthStencilOps

@@ -1,4 +1,4 @@
--- An empty slot is fine; of any other the two checks stand in order.
+-- An empty slot is accepted; of any other the two checks stand in order.
 use mathlib.Core.Path.{sym, _∙_}
 use Rattle.definition.specs.Check.{slotOps}
 use Rattle.channel.proofs.Kind.{loads-kind, ignores-kind, kind-load}
@@ -8,7 +8,7 @@ use Rattle.descriptor.proofs.slot_ops.Tie as tie
 
 returns : tie.Need-returns
 unfolding slotOps
-returns c = simp (c .fine .ensures, c .before .before .is-none .ensures, sym (c .before .before .is-none .ensures) ∙ c .before .if1 .taken)
+returns c = simp (c .accepted .ensures, c .before .before .is-none .ensures, sym (c .before .before .is-none .ensures) ∙ c .before .if1 .taken)
 
 returns-2 : tie.Need-returns-2
 unfolding slotOps

@@ -1,5 +1,5 @@
 -- A run of the C functions is the calls of the definition, and what a caller reads is what these answer.
-use Prim.Native.Nat.{ℕ, zero, suc, _*_, _≤_}
+use Prim.Native.Nat.{ℕ, zero, suc, _≤_}
 use native.Mathlib.Omega.{arith}
 use mathlib.Core.Path.{_≡_, refl, sym, ap, subst, _∙_}
 use mathlib.Core.Bool.{Bool, true, false, _||_, cond}
@@ -10,28 +10,26 @@ use lib.ListN.{length, take, length-map}
 use lib.Seq.{take-all}
 use Rattle.definition.specs.Session.{Session, Pass, session}
 use Rattle.definition.specs.Readable.{sessionRefusal}
-use Rattle.definition.specs.Sizes.{maxSurfaces, countBytes, surfaceNumbers, actionNumbers, maxAttachments, discardsBytes, actionsBytes, clearsBytes}
+use Rattle.definition.specs.Sizes.{maxSurfaces, maxAttachments, surfaceBytes, actionBytes, discardsBytes, actionsBytes, clearsBytes}
 use Rattle.definition.specs.Status.{filled}
-use Rattle.definition.specs.Verdict.{isFine, nowhere, refusedAt}
+use Rattle.definition.specs.Verdict.{isAccepted, nowhere, refusedAt}
 use Rattle.definition.specs.Check.{check}
 use Rattle.definition.specs.MemoryInit.{Lists}
 use Rattle.definition.specs.Attachments.{attachments}
-use Rattle.definition.specs.Pass.{Reply, attachmentReply, Outcome, refusedPass, passVerdict, checkPass}
-use Rattle.definition.specs.Calls.{State, Call, pass, submit, checked, submitted, Step, lentRight, called, notLent, passCall, passStep, call, answers, after}
+use Rattle.definition.specs.Pass.{Reply, attachmentReply, Outcome, roomVerdict, newPass, refusedPass, checkPass}
+use Rattle.definition.specs.Calls.{State, Call, pass, submit, checked, submitted, Step, lentValid, called, notLent, passCall, passStep, call, answers, after}
 use Rattle.definition.specs.declared.Surface.{Surface}
-use Rattle.laws.proofs.Verdicts.{then-left}
-use Rattle.laws.specs.Records.{records}
-use Rattle.records.specs.Lent.{surfaces, actions}
-use Rattle.lent.specs.Numbers.{numbersAt}
-use Rattle.lent.specs.State.{short}
-use Rattle.render.proofs.Records.{take-padded}
-use Rattle.render.proofs.Outcome.{few-colors, outcome-refused, outcome-accepted}
-use Rattle.render.proofs.Reply.{attachments-most}
+use Rattle.lists.specs.Lists.{surfaceOf, actionOfBytes}
+use Rattle.lists.proofs.Lists.{emptied}
+use Rattle.buffer_validation.specs.Buffers.{Buffers, heldIn, tooShort}
+use Rattle.attachments.proofs.Resolving.{take-padded}
+use Rattle.render_pass.proofs.Outcome.{refused-by-start, refused-by-room, accepted-pass}
 use Rattle.desk.specs.declared.reply.Reply as C
-use Rattle.desk.specs.Entry.{Buffers, heldIn, tooShort, numberIn, Opened}
+use Rattle.desk.specs.Entry.{numberIn, Opened}
 use Rattle.desk.specs.Reply.{answered}
 use Rattle.desk.specs.Promise.{LengthsStay}
 use Rattle.desk.proofs.Calls.{entry-call, entry-called}
+use Rattle.desk.proofs.Attached.{attachments-most}
 use Rattle.noninterference.specs.Memory.{events, byteOf, loaded, cells}
 use Rattle.noninterference.specs.Claim.{Fresh, submittedFrom, lastUse, kept, Agree, Hidden}
 use Rattle.noninterference.proofs.Theorem.{demand-three, first-answers, never-six}
@@ -45,24 +43,30 @@ record Legible (r : Reply) (l : Lists) : Type 0 where
   few : length (r .attachments) ≤ maxAttachments
   clears : take (length (r .clears)) (l .clears) ≡ r .clears
 
+-- A refusal has no attachments and no clears.
 legible-refused : (r : Reply) (l : Lists) → r .attachments ≡ [] → r .clears ≡ [] → Legible r l
 legible-refused r l e f = record { few = omega (arith, ap length e); clears = ap (λ q. take (length q) (l .clears)) f ∙ sym f }
 
+-- All of a list.
 take-whole : (xs : List Surface) → take (length xs) xs ≡ xs
 take-whole xs = take-all (length xs) xs (omega arith)
 
--- The reply to a pass.
+-- The reply to a pass, by what refuses it.
 legible-check : (S : Session) (p : Pass) (l : Lists) → Legible (checkPass S p l .reply) (checkPass S p l .lists)
-unfolding checkPass
-legible-check S p l = go (isFine (passVerdict (check S p) (attachments S p) l)) refl
+legible-check S p l = start (isAccepted (check S p .verdict)) refl
   where
-    go : (b : Bool) → isFine (passVerdict (check S p) (attachments S p) l) ≡ b → Legible (checkPass S p l .reply) (checkPass S p l .lists)
-    go false e = subst (λ (o : Outcome). Legible (o .reply) (o .lists)) (sym (outcome-refused S (check S p) (attachments S p) l _ refl e)) (legible-refused _ _ refl refl)
-    go true e = subst (λ (o : Outcome). Legible (o .reply) (o .lists)) (sym (outcome-accepted S (check S p) (attachments S p) l _ refl e)) (record {
-      few = omega (arith, length-map (attachments S p) (attachmentReply S), attachments-most S p (few-colors S p (then-left _ _ e)));
+    room : (b : Bool) → isAccepted (check S p .verdict) ≡ true → isAccepted (roomVerdict (attachments S p) (newPass l)) ≡ b → Legible (checkPass S p l .reply) (checkPass S p l .lists)
+    room false f e = subst (λ (o : Outcome). Legible (o .reply) (o .lists)) (sym (refused-by-room S p l _ f refl e)) (legible-refused _ _ refl refl)
+    room true f e = subst (λ (o : Outcome). Legible (o .reply) (o .lists)) (sym (accepted-pass S p l _ f refl e)) (record {
+      few = omega (arith, length-map (attachments S p) (attachmentReply S), attachments-most S p f);
       clears = take-whole _;
     })
 
+    start : (b : Bool) → isAccepted (check S p .verdict) ≡ b → Legible (checkPass S p l .reply) (checkPass S p l .lists)
+    start false e = subst (λ (o : Outcome). Legible (o .reply) (o .lists)) (sym (refused-by-start S p l e)) (legible-refused _ _ refl refl)
+    start true e = room (isAccepted (roomVerdict (attachments S p) (newPass l))) e refl
+
+-- A flag is 1 where it is set.
 flag-read : (b : Bool) → eqb (cond b 1 0) 1 ≡ b
 flag-read true = refl
 flag-read false = refl
@@ -83,10 +87,11 @@ reads i r l b h e = λ q. checked (record {
 
 -- ── one call
 
+-- The answer to a pass check is what a caller reads of it.
 read-pass : (S : Session) (i : ℕ) (σ : State) (q : C.Reply) (b : Buffers) → q ≡ answered (call S (pass i) σ .answer) → heldIn b ≡ call S (pass i) σ .state
     → readIn (ofPass i q) b ≡ call S (pass i) σ .answer
 unfolding call passCall
-read-pass S i σ q b e h = go (lentRight S σ) (ltb i (S .passCount)) e h
+read-pass S i σ q b e h = go (lentValid S σ) (ltb i (S .passCount)) e h
   where
     step : Bool → Bool → Step
     step x y = cond x (passStep (cond y (checkPass S (S .pass i) (σ .lists)) (refusedPass (refusedAt 5 nowhere) (σ .lists))) σ) (notLent (pass i) σ)
@@ -96,10 +101,11 @@ read-pass S i σ q b e h = go (lentRight S σ) (ltb i (S .passCount)) e h
     go true false e h = ap (λ (p : C.Reply). readIn (ofPass i p) b) e ∙ reads i _ _ b (legible-refused _ _ refl refl) (ap (λ (τ : State). τ .lists) h)
     go false y e h = ap (λ (p : C.Reply). readIn (ofPass i p) b) e ∙ reads i _ _ b (legible-refused _ _ refl refl) (ap (λ (τ : State). τ .lists) h)
 
+-- And so is the answer to a submission.
 read-submit : (S : Session) (σ : State) (n : ℕ) (b : Buffers) → n ≡ numberIn (call S submit σ .answer) → heldIn b ≡ call S submit σ .state
     → readIn (ofSubmit n) b ≡ call S submit σ .answer
 unfolding call
-read-submit S σ n b e h = go (lentRight S σ) e h
+read-submit S σ n b e h = go (lentValid S σ) e h
   where
     step : Bool → Step
     step x = cond x (called S submit σ) (notLent submit σ)
@@ -125,7 +131,7 @@ module _ (s : List ℕ) where
 
   -- and the buffers are as long as before.
   as-long : (b b′ : Buffers) → LengthsStay (b .lists) (b′ .lists) → length (b′ .status) ≡ length (b .status) → tooShort b′ ≡ tooShort b
-  unfolding short
+  unfolding tooShort
   as-long b b′ h e =
       λ q. ltb (h .discards q) discardsBytes || ltb (h .actions q) actionsBytes || ltb (h .clears q) clearsBytes || ltb (e q) maxSurfaces
 
@@ -187,12 +193,11 @@ module _ (s : List ℕ) where
 
 -- They hold a fresh state.
 fresh-held : (s : List ℕ) (b : Buffers) → FreshBuffers s b → Fresh (session s) (heldIn b)
-unfolding records
 fresh-held s b h = record {
   lists = λ q. record {
-    discards = ap (λ (n : ℕ). surfaces n (numbersAt (b .lists .discards) countBytes (surfaceNumbers * n))) (h .discards) q;
-    actions = ap (λ (n : ℕ). actions n (numbersAt (b .lists .actions) countBytes (actionNumbers * n))) (h .actions) q;
-    clears = ap (λ (n : ℕ). surfaces n (numbersAt (b .lists .clears) countBytes (surfaceNumbers * n))) (h .clears) q;
+    discards = emptied {k = surfaceBytes} {decode = surfaceOf} {b = b .lists .discards} (record { count = h .discards; behind = refl }) .list q;
+    actions = emptied {k = actionBytes} {decode = actionOfBytes} {b = b .lists .actions} (record { count = h .actions; behind = refl }) .list q;
+    clears = emptied {k = surfaceBytes} {decode = surfaceOf} {b = b .lists .clears} (record { count = h .clears; behind = refl }) .list q;
   };
   status = h .status;
 }
@@ -206,7 +211,7 @@ pub never-six-of-calls : NeverSixOfCalls
 never-six-of-calls s ok b h ts r n k =
     let run = from-fresh s ok b h ts r in
     entry-called s k (buffersAfter b ts n) (run .opened n)
-    (ap (lentRight (session s)) (run .states n) ∙ never-six s ok (heldIn b) (fresh-held s b h) (take n (callsOf ts)))
+    (ap (lentValid (session s)) (run .states n) ∙ never-six s ok (heldIn b) (fresh-held s b h) (take n (callsOf ts)))
 
 pub demand-three-of-calls : DemandThreeOfCalls
 demand-three-of-calls s ok st single b h ts r Val D c c′ =

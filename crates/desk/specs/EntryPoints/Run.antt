@@ -7,10 +7,9 @@ use lib.Dec.{eqb}
 use lib.ListN.{take, replicate}
 use Rattle.definition.specs.Session.{session, surfaceCount}
 use Rattle.definition.specs.Calls.{Call, pass, submit, Answer, checked, submitted}
-use Rattle.lent.specs.Packed.{countIn}
-use Rattle.lent.specs.State.{surfacesIn}
+use Rattle.lists.specs.Lists.{countIn, surfacesIn}
+use Rattle.buffer_validation.specs.Buffers.{Buffers, tooShort}
 use Rattle.desk.specs.declared.reply.Reply.{Reply}
-use Rattle.desk.specs.Entry.{Buffers, tooShort}
 use Rattle.desk.specs.Promise.{PassPromise, SubmitPromise}
 
 -- ── where a run starts
@@ -30,6 +29,7 @@ pub data Told : Type 0 where
   ofPass : ℕ → Reply → Told
   ofSubmit : ℕ → Told
 
+-- The call that it is told of.
 abbrev pub callOf : Told → Call
 callOf (ofPass i r) = pass i
 callOf (ofSubmit n) = submit
@@ -46,10 +46,12 @@ pub record Turn : Type 0 where
   pub told : Told
   pub left : Buffers
 
+-- Each call keeps its function's promise, from the buffers that the one before left.
 abbrev pub Run : List ℕ → Buffers → List Turn → Type 0
 Run s b [] = Unit
 Run s b (t ∷ ts) = Promised s b (t .told) (t .left) × Run s (t .left) ts
 
+-- The calls.
 abbrev pub callsOf : List Turn → List Call
 callsOf [] = []
 callsOf (t ∷ ts) = callOf (t .told) ∷ callsOf ts
@@ -77,6 +79,7 @@ readIn (ofPass i r) b = checked (record {
 })
 readIn (ofSubmit n) b = submitted n (b .status)
 
+-- Of each call, in the buffers after it.
 abbrev pub answersIn : List Turn → List Answer
 answersIn [] = []
 answersIn (t ∷ ts) = readIn (t .told) (t .left) ∷ answersIn ts

@@ -14,7 +14,8 @@ use Rattle.laws.specs.Surfaces.{Inside}
 use Rattle.noninterference.specs.Memory.{Cells, Drawing, Contents, Event, events, byteOf, loaded, cells}
 use Rattle.noninterference.specs.Claim.{submittedFrom, lastUse, kept, Agree}
 use Rattle.noninterference.specs.Theorem.{OfStrictSessions}
-use Rattle.desk.specs.Entry.{Buffers, heldIn, entry}
+use Rattle.buffer_validation.specs.Buffers.{Buffers, heldIn}
+use Rattle.desk.specs.Entry.{entry}
 use Rattle.desk.specs.EntryPoints.Run.{FreshBuffers, Turn, Run, callsOf, buffersAfter, answersIn}
 
 -- A surface's status byte after the first n calls.
@@ -25,10 +26,11 @@ byteAfterCalls s b ts n x = byteOf (session s) (buffersAfter b ts n .status) x
 abbrev pub heardFirst : List ℕ → List Turn → ℕ → List Event
 heardFirst s ts n = events (session s) 0 (take n (callsOf ts)) (take n (answersIn ts))
 
--- What the passes load or clear to, and the memory after the first n calls.
+-- What the passes load or clear to.
 abbrev pub loadedIn : {Val : Type 0} → Drawing Val → Contents Val → List ℕ → List Turn → List (List Val)
 loadedIn D c s ts = loaded D (c .left) (session s) (events (session s) 0 (callsOf ts) (answersIn ts)) [] (c .first)
 
+-- The memory after the first n calls.
 abbrev pub memoryIn : {Val : Type 0} → Drawing Val → Contents Val → List ℕ → List Turn → ℕ → Cells Val
 memoryIn D c s ts n = cells D (c .left) (session s) (heardFirst s ts n) [] (c .first)
 
@@ -43,6 +45,7 @@ pub record HiddenIn {Val : Type 0} (D : Drawing Val) (c c′ : Contents Val) (s 
   pub equal : (n : ℕ) (x : Surface) → Inside (session s) x → filled (byteAfterCalls s b ts n x) ≡ true
       → Agree (session s) x (memoryIn D c s ts n) (memoryIn D c′ s ts n)
 
+-- Of every run of a strict session from fresh buffers.
 abbrev pub DemandThreeOfCalls : Type 1
 DemandThreeOfCalls =
     OfStrictSessions (λ s.

@@ -7,7 +7,7 @@ use borrow.Author.Needs.{needs}
 use borrow.Author.Tests.{leb-false, not-true}
 use lib.Dec.{leb}
 use lib.ListN.{length}
-use Rattle.print.specs.Oversize.{lengthBound}
+use Rattle.report.specs.Oversize.{lengthBound}
 use Rattle.streams.proofs.read_rest.Statement.{statement}
 use Rattle.streams.proofs.read_rest.Tie as tie
 

@@ -4,8 +4,8 @@ use mathlib.Core.Path.{_≡_, refl, ap, _∙_}
 use Prim.Native.Nat.{ℕ, _-_, _≤_, zero-le}
 use lib.ListN.{length}
 use Rattle.definition.specs.Session.{session, surfacesOf}
+use Rattle.laws.specs.Plans.{actionOf}
 use Rattle.laws.specs.Submission.{sweep, actAt}
-use Rattle.records.specs.Lent.{actionOf}
 use Rattle.submission.specs.Runs.{firstMips}
 use Rattle.submission.proofs.Sweeps.{mips-none, mips-further}
 use Rattle.submission.proofs.act.Statement.{statement}
@@ -26,7 +26,7 @@ act-mip-requires : tie.Need-act-mip-requires Inv-loop μ-loop
 act-mip-requires c κs =
     let at = c .before .before .before in
     let start = at .before .before .before .before in
-    (start .pre .0, (start .pre .1 .0, (c .before .if1 .taken, (start .pre .1 .1 .0, omega (arith, start .pre .1 .1 .1, at .loop .inv .2)))))
+    (start .pre .0, (start .pre .1 .0, (c .before .if1 .taken, omega (arith, start .pre .1 .1, at .loop .inv .2))))
 
 loop-again : tie.Need-loop-again Inv-loop μ-loop
 loop-again c =

@@ -10,24 +10,24 @@ use Rattle.submission.proofs.act_mip.Tie as tie
 add-t8 : tie.Need-add-t8
 add-t8 c =
     let start = c .before .before .before .before in
-    omega (arith, mip-fits (session (start .args .s .now)) (start .args .range) (start .pre .1 .0) (start .args .m) (start .pre .1 .1 .0), start .pre .1 .1 .1 .0)
+    omega (arith, mip-fits (session (start .args .s .now)) (start .args .range) (start .pre .1 .0) (start .args .m) (start .pre .1 .1 .0), start .pre .0 .surfaces)
 
 surface-index-requires : tie.Need-surface-index-requires
 surface-index-requires c κs =
     let start = c .before .before .before .before .before in
-    (start .pre .0, (first-inside (session (start .args .s .now)) (start .args .range) (start .pre .1 .0) (start .args .m) (start .pre .1 .1 .0), start .pre .1 .1 .1 .0))
+    (start .pre .0, first-inside (session (start .args .s .now)) (start .args .range) (start .pre .1 .0) (start .args .m) (start .pre .1 .1 .0))
 
 act-run-requires : tie.Need-act-run-requires
 act-run-requires c κs =
     let start = c .before .before .before .before .before .before .before in
-    omega (arith, c .before .surface-index .ensures, c .wide .ensures, run-fits (session (start .args .s .now)) (start .args .range) (start .pre .1 .0) (start .args .m) (start .pre .1 .1 .0), start .pre .1 .1 .1 .1)
+    omega (arith, c .before .surface-index .ensures, c .wide .ensures, run-fits (session (start .args .s .now)) (start .args .range) (start .pre .1 .0) (start .args .m) (start .pre .1 .1 .0), start .pre .1 .1 .1)
 
 returns : tie.Need-returns
 returns c =
     let run = c .before .before in
     let start = run .before .before .before .before .before .before .before .before in
     run .act-run .ensures
-    ∙ mip-sweeps (session (start .args .s .now)) (start .args .range) (start .pre .1 .0) (start .args .kind) (start .args .m) _ _ (start .args .status .now) (start .pre .1 .1 .0) (start .pre .1 .1 .1 .1)
+    ∙ mip-sweeps (session (start .args .s .now)) (start .args .range) (start .pre .1 .0) (start .args .kind) (start .args .m) _ _ (start .args .status .now) (start .pre .1 .1 .0) (start .pre .1 .1 .1)
     (run .before .before .surface-index .ensures) (run .before .wide .ensures)
 
 pub act-mip-spec : {M : Type 1} → statement M

@@ -1,49 +1,45 @@
--- What the parts leave, one after the other, is the submission.
-use native.Mathlib.Omega.{arith}
-use Rattle.definition.specs.Session.{session}
-use Rattle.submission.proofs.Sweeps.{submit-all}
+-- Where both counts are 0 the bytes begin; else the lists are submitted.
+use mathlib.Core.Path.{_≡_, sym, _∙_}
+use lib.Dec.{eqb}
 use borrow.Author.Needs.{needs}
+use borrow.Author.Tests.{eqb-true}
+use Rattle.definition.specs.Session.{session}
+use Rattle.laws.proofs.Tests.{and-left, and-right}
+use Rattle.lists.specs.Lists.{countIn}
+use Rattle.submission.proofs.Sweeps.{submit-none}
 use Rattle.submission.proofs.submit.Statement.{statement}
 use Rattle.submission.proofs.submit.Tie as tie
 
--- The places of the parts, each from the one behind it.
-abbrev bases-at : tie.After-restart-bytes → tie.After-texture-bases
-bases-at r = r .before .before .before
+abbrev start : tie.Then1 → tie.Start
+start t = t .before .before .before .before .before .before .before
 
-abbrev start : tie.After-restart-bytes → tie.Start
-start r = bases-at r .before .before .before .before .before .before
-
-run-actions-requires : tie.Need-run-actions-requires
-run-actions-requires c κs =
-    let begun = c .before .before .before .before in
-    let pre = start begun .pre in
-    (bases-at begun .texture-bases .ensures .1, (pre .actions, (pre .actions-long, (pre .surfaces, omega (arith, pre .status, begun .restart-bytes .kept .0)))))
-
-run-discards-requires : tie.Need-run-discards-requires
-run-discards-requires c κs =
-    let acted = c .before .before .before .before in
-    let begun = acted .before .before .before .before .before in
-    let pre = start begun .pre in
-    (bases-at begun .texture-bases .ensures .1, (pre .discards, (pre .discards-long, (pre .surfaces, omega (arith, pre .status, begun .restart-bytes .kept .0, acted .run-actions .kept .1 .1 .0)))))
+-- No discard and no action.
+none : (t : tie.Then1) → (countIn (start t .args .discards .now) ≡ 0) × (countIn (start t .args .actions .now) ≡ 0)
+none t =
+    let d = t .before .before .count in
+    let a = t .before .count2 in
+    let both = t .if1 .taken in (
+      sym (d .ensures) ∙ eqb-true (d .result) 0 (and-left (eqb (d .result) 0) (eqb (a .result) 0) both),
+      sym (a .ensures) ∙ eqb-true (a .result) 0 (and-right (eqb (d .result) 0) (eqb (a .result) 0) both),
+    )
 
 returns : tie.Need-returns
 returns c =
-    let emptied = c .before .before in
-    let acted = emptied .before .before .before .before .before in
-    let begun = acted .before .before .before .before .before in
-    submit-all (session (start begun .args .s .now)) _ _ _ _ _ _ _ (start begun .pre .status)
-    (bases-at begun .texture-bases .ensures .0) (begun .restart-bytes .ensures) (acted .run-actions .ensures) (emptied .run-discards .ensures)
+    let begun = c .before .before in
+    let counted = begun .before in
+    let t = counted .before .before in
+    submit-none (session (start t .args .s .now)) _ _ _ _ _ (start t .pre .status) (none t .0) (none t .1) (counted .surface-count .ensures) (begun .restart-bytes .ensures)
 
 pub submit-spec : {M : Type 1} → statement M
 submit-spec =
     tie.close
     (tie.spec
-    (λ c. search needs)
+    (λ c κs. search needs)
+    (λ c κs. search needs)
     (λ c κs. search needs)
     (λ c κs. search needs)
     (λ c. search needs)
-    run-actions-requires
+    returns
+    (λ c κs. search needs)
     (λ c. search needs)
-    run-discards-requires
-    (λ c. search needs)
-    returns)
+    (λ c. search needs))

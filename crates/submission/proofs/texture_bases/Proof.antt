@@ -2,13 +2,11 @@
 use native.Mathlib.Omega.{arith}
 use mathlib.Core.Path.{_≡_, refl, sym, ap, _∙_}
 use Prim.Native.Nat.{ℕ, _+_, _-_, _≤_, _<_, zero-le}
-use lib.ListN.{length, length-set}
-use lib.ListN.{getD}
+use lib.ListN.{length, length-set, getD}
 use Rattle.definition.specs.Session.{session, surfacesIn, surfacesBefore}
 use Rattle.laws.proofs.Folds.{before-none, before-turn}
 use Rattle.submission.proofs.Bases.{entry-further, sum-fits}
 use borrow.Author.Needs.{needs}
-use Rattle.definition.specs.Session.{session, surfacesBefore}
 use Rattle.submission.proofs.texture_bases.Statement.{statement}
 use Rattle.submission.proofs.texture_bases.Tie as tie
 
@@ -23,7 +21,14 @@ loop-holds c = (sym (before-none _), (zero-le, (refl, λ j h. absurd (omega arit
 
 -- The surfaces of the texture.
 added : (c : tie.After-surfaces-in Inv-loop μ-loop) → c .surfaces-in .result ≡ surfacesIn (session (c .before .before .before .before .before .before .before .before .args .s .now) .texture (c .before .before .before .before .loop .k))
-added c = c .surfaces-in .ensures .0 ∙ ap surfacesIn (c .before .texture .ensures)
+added c = c .surfaces-in .ensures .0 ∙ ap surfacesIn (c .before .texture-inside .ensures)
+
+-- Row k is one of those that lie inside.
+texture-inside-requires : tie.Need-texture-inside-requires Inv-loop μ-loop
+texture-inside-requires c κs =
+    let at = c .before .before in
+    let start = at .before .before .before .before in
+    omega (arith, start .pre .0)
 
 add-sum : tie.Need-add-sum Inv-loop μ-loop
 add-sum c = let at = c .before .before .before .before in
@@ -51,7 +56,7 @@ returns : tie.Need-returns Inv-loop μ-loop
 returns c = let at = c .before in
     let start = at .before .before .before .before in
     let all : at .loop .k ≡ (session (start .args .s .now)) .textureCount = omega arith in
-    (at .loop .inv .0 ∙ ap (surfacesBefore (session (start .args .s .now))) all, record { long = omega arith; before = λ j h. at .loop .inv .1 .1 .1 j (omega arith) })
+    (at .loop .inv .0 ∙ ap (surfacesBefore (session (start .args .s .now))) all, record { rows = start .pre .0; surfaces = start .pre .1 .1; long = omega arith; before = λ j h. at .loop .inv .1 .1 .1 j (omega arith) })
 
 pub texture-bases-spec : {M : Type 1} → statement M
 texture-bases-spec =
@@ -64,7 +69,7 @@ texture-bases-spec =
     (λ c κs. search needs)
     (λ c. omega arith)
     (λ c. omega arith)
-    (λ c κs. search needs)
+    texture-inside-requires
     (λ c κs. search needs)
     add-sum
     (λ c. omega arith)

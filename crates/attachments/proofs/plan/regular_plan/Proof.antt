@@ -6,7 +6,7 @@ use Rattle.attachments.proofs.plan.regular_plan.Statement.{statement}
 use Rattle.attachments.proofs.plan.regular_plan.Tie as tie
 
 returns : tie.Need-returns
-returns c = regular (c .init-actions .result) (operationsIn (c .before .before .before .args .ops)) _ _ (c .before .before .loads .ensures) (c .before .stores .ensures) (c .init-actions .ensures)
+returns c = regular (c .add-pass-texture-init-actions .result) (operationsIn (c .before .before .before .args .ops)) _ _ (c .before .before .loads .ensures) (c .before .stores .ensures) (c .add-pass-texture-init-actions .ensures)
 
 pub regular-plan-spec : {M : Type 1} → statement M
 regular-plan-spec = tie.close (tie.spec (λ c κs. search needs) (λ c κs. search needs) (λ c κs. search needs) returns)

@@ -6,7 +6,7 @@ use Rattle.definition.proofs.verdicts.unless_against.Tie as tie
 
 returns : tie.Need-returns
 unfolding unlessAgainst
-returns c = simp (c .either .ensures, c .before .fine .ensures)
+returns c = simp (c .either .ensures, c .before .accepted .ensures)
 
 pub unless-against-spec : {M : Type 1} → statement M
 unless-against-spec = tie.close (tie.spec (λ c κs. search needs) (λ c κs. search needs) returns)

@@ -54,8 +54,7 @@ use Rattle.definition.specs.declared.Surface.{Surface}
 use Rattle.definition.proofs.Surface as T
 use Rattle.definition.proofs.Surface.Laws as T′
 use Rattle.laws.proofs.Compact.{Compacting, compact-start}
-use Rattle.records.specs.Lent.{decodeSurface}
-use Rattle.memory_init.specs.Slices.{numbers, rangeOf, Kept}
+use Rattle.memory_init.specs.Slices.{decodeSurface, numbers, rangeOf, Kept}
 use Rattle.memory_init.specs.declared.texture_surface_discards.TextureInitRange.{TextureInitRange}
 use Rattle.memory_init.proofs.Slices.{none}
 use Rattle.memory_init.proofs.Compaction.{outside, State, kept-on, left-out, retained, past-end}

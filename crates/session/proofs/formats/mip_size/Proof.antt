@@ -2,7 +2,7 @@
 use mathlib.Core.Path.{_≡_, sym, ap, _∙_}
 use Prim.Native.Nat.{ℕ, _/_, _^_, _%_, _<_}
 use native.Mathlib.Nat.{mod-eq-of-lt}
-use Rattle.wire.proofs.Bits.{shifted-out}
+use Rattle.encoding.proofs.Bits.{shifted-out}
 use Rattle.definition.specs.Formats.{mipSize}
 use borrow.Author.Needs.{needs}
 use Rattle.session.proofs.formats.mip_size.Statement.{statement}

@@ -4,11 +4,11 @@ use std::hint::black_box;
 
 use desk::{Lists, ROWS_LEN};
 use oracle::Run;
+use runs::timed::*;
 use sessions::layout::*;
 use sessions::random::{self, Prng};
 use sessions::reader;
-use sessions::rows::{EMPTY_PASS, EMPTY_SLOT, PLAIN_TEXTURE, PLAIN_VIEW};
-use sessions::{text, Channel, Pass, Session, Slot, Texture, View};
+use sessions::{text, Session};
 
 use crate::timing::{pair, Pair};
 
@@ -111,7 +111,7 @@ fn comparable(seed: u64, count: usize) -> Vec<Vec<u8>> {
         .collect()
 }
 
-/// Whole sessions: document 01's example, random ones, and one of a hundred passes.
+/// Whole sessions: document 01's example, random ones, of a hundred passes, and with all discards held.
 pub fn whole_sessions() -> impl Iterator<Item = (String, Pair)> {
     let sets = [
         ("document 01's example, 2 passes", vec![text::document_01()]),
@@ -123,6 +123,14 @@ pub fn whole_sessions() -> impl Iterator<Item = (String, Pair)> {
         (
             "100 passes of 17 attachments",
             vec![wide(MAX_PASSES).to_bytes()],
+        ),
+        (
+            "64 discards held, then 61 passes of 8 loads",
+            vec![loads_beside_discards().to_bytes()],
+        ),
+        (
+            "3 buffers: 64 discards, 25 passes of 17 loads",
+            vec![loads_among_discards().to_bytes()],
         ),
     ];
     sets.into_iter()
@@ -279,194 +287,4 @@ fn by_discards() -> Vec<(u32, Pair)> {
     [0, 1, 8, 16, 32, 48, DISCARDS as u32 - 1]
         .map(held)
         .to_vec()
-}
-
-/// A slot of a view that clears and stores.
-fn clearing(view: u32) -> Slot {
-    Slot {
-        view,
-        load: CLEAR,
-        store: STORE,
-        ..EMPTY_SLOT
-    }
-}
-
-/// A pass of these slots.
-fn pass_of(slots: &[Slot]) -> Pass {
-    let mut pass = EMPTY_PASS;
-    pass.colours = slots.len() as u32;
-    pass.slots[..slots.len()].copy_from_slice(slots);
-    pass
-}
-
-/// One texture and view, so many passes that clear and store.
-fn by_passes(passes: u32) -> Session {
-    Session {
-        textures: vec![PLAIN_TEXTURE],
-        views: vec![PLAIN_VIEW],
-        passes: vec![pass_of(&[clearing(0)]); passes as usize],
-        ..Session::new()
-    }
-}
-
-/// A pass that loads.
-fn loading() -> Session {
-    let mut session = by_passes(1);
-    session.passes[0].slots[0].load = LOAD;
-    session
-}
-
-/// A pass that loads the last slice of a volume.
-fn slice() -> Session {
-    let mut session = loading();
-    session.textures[0] = VOLUME;
-    session.views[0].dimension = D3;
-    session.passes[0].slots[0].slice_given = 1;
-    session.passes[0].slots[0].slice = MAX_LAYERS - 1;
-    session
-}
-
-/// The deepest 3D texture, with the most mips.
-const VOLUME: Texture = Texture {
-    dimension: 3,
-    depth_or_layers: MAX_LAYERS,
-    mips: MAX_MIPS,
-    ..PLAIN_TEXTURE
-};
-
-/// As many of them as a session can have, and no more rows.
-fn volumes() -> Session {
-    let most = MAX_SURFACES / reader::surfaces_of(&VOLUME);
-    Session {
-        textures: vec![VOLUME; most as usize],
-        ..Session::new()
-    }
-}
-
-/// One texture, so many views, ten passes over the last of them.
-fn by_views(views: u32) -> Session {
-    Session {
-        views: vec![PLAIN_VIEW; views as usize],
-        passes: vec![pass_of(&[clearing(views - 1)]); 10],
-        ..by_passes(0)
-    }
-}
-
-/// So many surfaces, ten passes over the first.
-fn by_surfaces(surfaces: u32) -> Session {
-    let layers = surfaces.min(MAX_LAYERS);
-    let mips = (surfaces / layers).min(8);
-    let texture = Texture {
-        width: 256,
-        height: 256,
-        depth_or_layers: layers,
-        mips,
-        ..PLAIN_TEXTURE
-    };
-    let textures = (surfaces / layers / mips) as usize;
-    Session {
-        textures: vec![texture; textures],
-        views: vec![PLAIN_VIEW],
-        passes: vec![pass_of(&[clearing(0)]); 10],
-        ..Session::new()
-    }
-}
-
-/// A depth-stencil and a colour attachment.
-fn depth_and_colour() -> Session {
-    let depth_stencil = Texture {
-        format: 23,
-        ..PLAIN_TEXTURE
-    };
-    let channel = Channel {
-        load: CLEAR,
-        store: STORE,
-        read_only: 0,
-        clear_given: 1,
-        clear: 0,
-    };
-    let mut session = by_passes(1);
-    session.textures.push(depth_stencil);
-    session.views.push(View {
-        texture: 1,
-        format: depth_stencil.format,
-        ..PLAIN_VIEW
-    });
-    session.passes[0].depth_stencil = 1;
-    session.passes[0].depth = channel;
-    session.passes[0].stencil = channel;
-    session
-}
-
-/// Passes of a depth-stencil, eight colours and their resolve targets. Each ends its buffer.
-fn wide(passes: u32) -> Session {
-    let mut session = depth_and_colour();
-    session.textures[0].samples = 4;
-    session.textures[0].depth_or_layers = SLOTS as u32;
-    session.textures[1].samples = 4;
-    session.textures.push(Texture {
-        depth_or_layers: SLOTS as u32,
-        ..PLAIN_TEXTURE
-    });
-    let depth_view = session.views[1];
-    let layer = |texture: u32, base_layer: u32| View {
-        texture,
-        base_layer,
-        ..PLAIN_VIEW
-    };
-    let colours = SLOTS as u32;
-    session.views = (0..colours).map(|k| layer(0, k)).collect();
-    session.views.extend((0..colours).map(|k| layer(2, k)));
-    session.views.push(depth_view);
-    let slots: [Slot; SLOTS] = std::array::from_fn(|k| Slot {
-        resolve: colours + k as u32,
-        ..clearing(k as u32)
-    });
-    let front = session.passes[0];
-    let pass = Pass {
-        depth_stencil: 2 * colours,
-        depth: front.depth,
-        stencil: front.stencil,
-        ends: 1,
-        ..pass_of(&slots)
-    };
-    session.passes = vec![pass; passes as usize];
-    session
-}
-
-/// As many rows as a session can have.
-fn longest() -> Session {
-    Session {
-        textures: vec![PLAIN_TEXTURE; MAX_TEXTURES as usize],
-        views: vec![PLAIN_VIEW; MAX_VIEWS as usize],
-        ..by_passes(MAX_PASSES)
-    }
-}
-
-/// 63 passes that each discard a surface of their own; then one that discards another surface, and
-/// one that stores it.
-fn many_discards() -> Session {
-    let layered = Texture {
-        depth_or_layers: MAX_LAYERS,
-        ..PLAIN_TEXTURE
-    };
-    let layer = |k: u32| View {
-        texture: k / MAX_LAYERS,
-        base_layer: k % MAX_LAYERS,
-        ..PLAIN_VIEW
-    };
-    let discarding = |view: u32| {
-        pass_of(&[Slot {
-            store: DISCARD,
-            ..clearing(view)
-        }])
-    };
-    let mut passes: Vec<Pass> = (0..DISCARDS as u32).map(discarding).collect();
-    passes.push(pass_of(&[clearing(DISCARDS as u32 - 1)]));
-    Session {
-        textures: vec![layered; 2],
-        views: (0..DISCARDS as u32).map(layer).collect(),
-        passes,
-        ..Session::new()
-    }
 }

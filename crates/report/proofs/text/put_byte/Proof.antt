@@ -1,0 +1,11 @@
+-- One store, at the place.
+use mathlib.Core.Path.{refl}
+use borrow.Author.Needs.{needs}
+use Rattle.report.proofs.text.put_byte.Statement.{statement}
+use Rattle.report.proofs.text.put_byte.Tie as tie
+
+returns : tie.Need-returns
+returns c = record { bytes = refl; behind = refl }
+
+pub put-byte-spec : {M : Type 1} → statement M
+put-byte-spec = tie.close (tie.spec (λ c. search needs) (λ c. search needs) (λ c. search needs) returns)

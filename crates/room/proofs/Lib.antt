@@ -1,4 +1,0 @@
-pub mod Going
-pub mod Tracking
-pub mod Room
-pub mod Bound

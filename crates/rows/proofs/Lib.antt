@@ -1,2 +1,0 @@
--- The root of this crate's laws.
-pub mod Rows
