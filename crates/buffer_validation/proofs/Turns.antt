@@ -17,8 +17,7 @@ use Rattle.laws.proofs.Lent.{surfaces-append, actions-append}
 use Rattle.laws.proofs.Folds.{and-stops, bytes-turn}
 use Rattle.laws.specs.Records.{recordAt, records}
 use Rattle.laws.proofs.Records.{records-suc}
-use Rattle.lists.specs.Lists.{surfaceOf, actionOfBytes, surfaceIn, actionIn}
-use Rattle.buffer_validation.specs.Right.{firstSurfaces, firstActions}
+use Rattle.lists.specs.Lists.{surfaceOf, actionOfBytes, surfaceIn, actionIn, firstSurfaces, firstActions}
 
 -- A test of a list that is one of each entry: of records one after another, as far as one that fails.
 module _ {A : Type 0} (k : ℕ) (decode : List ℕ → A) (all : List A → Bool) (one : A → Bool) (more : (xs : List A) (x : A) → all (xs ++ (x ∷ [])) ≡ (all xs && one x)) (l : List ℕ) where

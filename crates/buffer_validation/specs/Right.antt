@@ -1,19 +1,14 @@
--- The texture rows of a session; what number 6 asks of a surface and of a range, past the number of their texture; the first records of a lent list.
+-- The texture rows of a session; what number 6 asks of a surface and of a range, past the number of their texture.
 use Prim.Native.Nat.{ℕ, _+_, _-_}
 use mathlib.Core.Path.{_≡_}
 use mathlib.Core.Bool.{Bool, not, _&&_}
 use mathlib.Core.List.{List}
 use lib.Dec.{eqb, leb, ltb}
-use lib.ListN.{drop}
-use Rattle.definition.specs.Sizes.{surfaceBytes, actionBytes, countBytes}
 use Rattle.definition.specs.Session.{Session, session, arrayLayers, slicesIn}
 use Rattle.definition.specs.declared.Texture.{Texture}
 use Rattle.definition.specs.declared.Surface.{Surface}
 use Rattle.definition.specs.declared.Range.{Range}
-use Rattle.definition.specs.declared.Action.{Action}
-use Rattle.laws.specs.Records.{records}
 use Rattle.session.specs.Rows.{RowsInside}
-use Rattle.lists.specs.Lists.{surfaceOf, actionOfBytes}
 
 -- The session has so many textures, and their rows lie inside.
 abbrev pub Textures : ℕ → List ℕ → Type 0
@@ -34,10 +29,3 @@ areaFits t r = leb 1 (r .mips) && leb (r .mip + r .mips) (t .mips) && (leb 1 (r 
 -- It has the range, and the range is not empty.
 abbrev pub rangeFits : Texture → Range → Bool
 rangeFits t r = areaFits t r && ltb (r .slice) (slicesIn t (r .mip + r .mips - 1))
-
--- The first records of a list.
-abbrev pub firstSurfaces : ℕ → List ℕ → List Surface
-firstSurfaces n b = records surfaceBytes surfaceOf n (drop countBytes b)
-
-abbrev pub firstActions : ℕ → List ℕ → List Action
-firstActions n b = records actionBytes actionOfBytes n (drop countBytes b)

@@ -31,10 +31,10 @@ ghost use Rattle.definition.specs.Sizes.{maxSurfaces, surfaceBytes, actionBytes
 ghost use Rattle.definition.specs.Session.{session, surfaceCount};
 ghost use Rattle.definition.specs.Readable.{sessionRefusal};
 ghost use Rattle.definition.specs.Calls.{surfaceValid, rangeValid, surfacesValid, actionsValid, bytesValid, countsValid, lentValid};
-ghost use Rattle.lists.specs.Lists.{countIn, surfacesIn, actionsIn};
+ghost use Rattle.lists.specs.Lists.{countIn, surfacesIn, actionsIn, firstActions};
 ghost use Rattle.lists.specs.Lent.{bytes, listsIn};
 ghost use Rattle.session.specs.Rows.{RowsInside};
-ghost use Rattle.buffer_validation.specs.Right.{Textures, isFlat, surfaceFits, areaFits, rangeFits, firstActions};
+ghost use Rattle.buffer_validation.specs.Right.{Textures, isFlat, surfaceFits, areaFits, rangeFits};
 ghost use Rattle.buffer_validation.specs.Buffers.{buffers, heldIn, tooShort};
 
 // ── a surface and a range

@@ -43,13 +43,6 @@ becomes {k = k} {decode = decode} {b₂ = b₂} b l first past s e =
           ∙ drop-drop (k * countIn b₂) countBytes b;
     }
 
--- The same of as many records by another name: a caller has what `count` returned.
-pub appended-as : {A : Type 0} {k : ℕ} {decode : List ℕ → A} {n m : ℕ} {xs : List A} {l l′ : List ℕ} {x : ℕ} → n ≡ m → Appended k decode n xs l l′ x → Appended k decode m xs l l′ x
-appended-as {k = k} {decode = decode} {xs = xs} {l = l} {l′ = l′} {x = x} = subst (λ (q : ℕ). Appended k decode q xs l l′ x)
-
-pub retained-as : {A : Type 0} {k : ℕ} {decode : List ℕ → A} {p : A → Bool} {n m : ℕ} {l l′ : List ℕ} {x : ℕ} → n ≡ m → Retained k decode p n l l′ x → Retained k decode p m l l′ x
-retained-as {k = k} {decode = decode} {p = p} {l = l} {l′ = l′} {x = x} = subst (λ (q : ℕ). Retained k decode p q l l′ x)
-
 -- Records are appended, and counted.
 pub append-becomes : {A : Type 0} {k : ℕ} {decode : List ℕ → A} {xs : List A} {x : ℕ} {b₁ b₂ : List ℕ} (b : List ℕ) → Appended k decode (countIn b) xs (drop countBytes b) (drop countBytes b₁) x
     → CountSet x b₁ b₂ → Becomes k decode (listIn k decode b ++ xs) b b₂

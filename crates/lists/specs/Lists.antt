@@ -66,6 +66,13 @@ surfacesIn b = listIn surfaceBytes surfaceOf b
 abbrev pub actionsIn : List ℕ → List Action
 actionsIn b = listIn actionBytes actionOfBytes b
 
+-- The first n records, whatever the count.
+abbrev pub firstSurfaces : ℕ → List ℕ → List Surface
+firstSurfaces n b = records surfaceBytes surfaceOf n (drop countBytes b)
+
+abbrev pub firstActions : ℕ → List ℕ → List Action
+firstActions n b = records actionBytes actionOfBytes n (drop countBytes b)
+
 -- The record at place i.
 abbrev pub surfaceIn : ℕ → List ℕ → Surface
 surfaceIn i b = recordAt surfaceBytes surfaceOf i (drop countBytes b)

@@ -20,14 +20,14 @@ use Rattle.laws.specs.Plans.{Plan, leavingBy, stayingBy, listedBy, leavingAll, 
 use Rattle.laws.proofs.Records.{records-length, past-more, append-count}
 use Rattle.laws.proofs.Compact.{Compacting, compact-done}
 use Rattle.laws.proofs.Plans.{none-leave, none-returned, none-implicit}
-use Rattle.lists.specs.Lists.{surfaceOf, actionOfBytes, countIn, surfacesIn, actionsIn, CountSet, Room, SurfacesBecome, ActionsBecome}
+use Rattle.lists.specs.Lists.{surfaceOf, actionOfBytes, countIn, surfacesIn, actionsIn, CountSet, Room, SurfacesBecome, ActionsBecome, firstSurfaces}
 use Rattle.lists.specs.Lent.{ListBytes, bytes, listsIn, Leaves}
 use Rattle.lists.proofs.Lists.{list-length, becomes}
 use Rattle.memory_init.specs.declared.Planned.{Planned}
 use Rattle.memory_init.specs.declared.Plans.{Plans}
 use Rattle.memory_init.specs.declared.tally.Tally.{Tally}
 use Rattle.memory_init.specs.Plans.{initKind, plansIn, Whole}
-use Rattle.memory_init.specs.Recording.{firstIn, staysBy, stays, Keeps, looked, Recordable}
+use Rattle.memory_init.specs.Recording.{staysBy, stays, Keeps, looked, Recordable}
 use Rattle.memory_init.proofs.Turns.{plans-turn, plans-done}
 use Rattle.memory_init.proofs.Entries.{Parts}
 
@@ -137,11 +137,11 @@ none-found (p ∷ ps) = omega (arith, length-append (leavingBy (p .kind) (p .ran
 
 -- Discards that are not looked at where none of them leaves make no difference.
 looked-same : {A : Type 0} (f : List Surface → List A) (ps : List Plan) (leaving : ℕ) (b : List ℕ) → leaving ≡ length (leavingAll ps (surfacesIn b)) → ((d : List Surface) → length (leavingAll ps d) ≡ 0 → f d ≡ f [])
-    → f (firstIn (looked leaving (countIn b)) b) ≡ f (surfacesIn b)
+    → f (firstSurfaces (looked leaving (countIn b)) b) ≡ f (surfacesIn b)
 unfolding records
 looked-same f ps leaving b h same = go (eqb leaving 0) refl
   where
-    go : (q : Bool) → eqb leaving 0 ≡ q → f (firstIn (cond q 0 (countIn b)) b) ≡ f (surfacesIn b)
+    go : (q : Bool) → eqb leaving 0 ≡ q → f (firstSurfaces (cond q 0 (countIn b)) b) ≡ f (surfacesIn b)
     go true e = sym (same (surfacesIn b) (sym h ∙ eqb-true leaving 0 e))
     go false e = refl
 
@@ -160,13 +160,13 @@ module _ (plans : Plans) (t : Tally) (b : ListBytes) (r : Recordable plans t b) 
   ps = plansIn plans
 
   -- The actions are those of all discards.
-  all-added : addedAll ps (firstIn n (b .discards)) ≡ addedAll ps (surfacesIn (b .discards))
-  all-added = ap (λ (q : ℕ). addedAll ps (firstIn q (b .discards))) looks ∙ looked-same (addedAll ps) ps (t .leaving) (b .discards) (r .tallied .leaving) (none-implicit ps)
+  all-added : addedAll ps (firstSurfaces n (b .discards)) ≡ addedAll ps (surfacesIn (b .discards))
+  all-added = ap (λ (q : ℕ). addedAll ps (firstSurfaces q (b .discards))) looks ∙ looked-same (addedAll ps) ps (t .leaving) (b .discards) (r .tallied .leaving) (none-implicit ps)
 
   -- So are the clears.
-  all-returned : returnedAll ps (firstIn n (b .discards)) ≡ returnedAll ps (surfacesIn (b .discards))
+  all-returned : returnedAll ps (firstSurfaces n (b .discards)) ≡ returnedAll ps (surfacesIn (b .discards))
   all-returned =
-      ap (λ (q : ℕ). returnedAll ps (firstIn q (b .discards))) looks
+      ap (λ (q : ℕ). returnedAll ps (firstSurfaces q (b .discards))) looks
       ∙ looked-same (returnedAll ps) ps (t .leaving) (b .discards) (r .tallied .leaving) (λ d e. none-returned ps d e ∙ sym (none-returned ps [] (none-found ps)))
 
   -- The discards that are looked at lie inside.
@@ -174,9 +174,9 @@ module _ (plans : Plans) (t : Tally) (b : ListBytes) (r : Recordable plans t b) 
   looked-inside = omega (arith, looks, looked-most (t .leaving) (countIn (b .discards)), r .held .long, r .held .count)
 
   -- The actions have room.
-  pub actions-room : Room actionBytes (countIn (b .actions) + length (addedAll ps (firstIn n (b .discards)))) (b .actions)
+  pub actions-room : Room actionBytes (countIn (b .actions) + length (addedAll ps (firstSurfaces n (b .discards)))) (b .actions)
   actions-room =
-      let most : countIn (b .actions) + length (addedAll ps (firstIn n (b .discards))) ≤ maxActions =
+      let most : countIn (b .actions) + length (addedAll ps (firstSurfaces n (b .discards))) ≤ maxActions =
       omega (
         arith,
         ap length all-added,
@@ -187,15 +187,15 @@ module _ (plans : Plans) (t : Tally) (b : ListBytes) (r : Recordable plans t b) 
       record { bytes = omega (arith, most, r .long .actions); small = omega (arith, most) }
 
   -- So have the clears.
-  pub clears-room : Room surfaceBytes (length (returnedAll ps (firstIn n (b .discards)))) (b .clears)
+  pub clears-room : Room surfaceBytes (length (returnedAll ps (firstSurfaces n (b .discards)))) (b .clears)
   clears-room =
-      let most : length (returnedAll ps (firstIn n (b .discards))) ≤ maxClears = omega (arith, ap length all-returned, r .fits .clears) in
+      let most : length (returnedAll ps (firstSurfaces n (b .discards))) ≤ maxClears = omega (arith, ap length all-returned, r .fits .clears) in
       record { bytes = omega (arith, most, r .long .clears); small = omega (arith, most) }
 
   -- What the three parts leave is what the plans leave together.
   pub pass-leaves : {d a c : List ℕ} → SurfacesBecome (stayingAll ps (surfacesIn (b .discards)) ++ listedAll ps) (b .discards) d
-      → ActionsBecome (actionsIn (b .actions) ++ addedAll ps (firstIn n (b .discards))) (b .actions) a
-      → SurfacesBecome (returnedAll ps (firstIn n (b .discards))) (b .clears) c
+      → ActionsBecome (actionsIn (b .actions) ++ addedAll ps (firstSurfaces n (b .discards))) (b .actions) a
+      → SurfacesBecome (returnedAll ps (firstSurfaces n (b .discards))) (b .clears) c
       → Leaves (together ps (newPass (listsIn b))) b (bytes d a c)
   pass-leaves {a = a} {c = c} kept added returned = record {
     discards = kept;

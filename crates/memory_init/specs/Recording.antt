@@ -6,7 +6,7 @@ use mathlib.Core.List.{List, [], _∷_, _++_}
 use mathlib.Core.Option.{Option, none, some}
 use lib.Dec.{eqb}
 use lib.ListN.{length, drop}
-use Rattle.definition.specs.Sizes.{surfaceBytes, countBytes}
+use Rattle.definition.specs.Sizes.{surfaceBytes}
 use Rattle.definition.specs.Surfaces.{hits}
 use Rattle.definition.specs.Pass.{newPass}
 use Rattle.definition.specs.declared.Surface.{Surface}
@@ -20,10 +20,6 @@ use Rattle.memory_init.specs.declared.Plans.{Plans}
 use Rattle.memory_init.specs.declared.tally.Tally.{Tally}
 use Rattle.memory_init.specs.Plans.{plansIn, Whole}
 use Rattle.memory_init.specs.Tally.{DiscardsInRoom, TallyOf}
-
--- The first n surfaces of a lent list.
-abbrev pub firstIn : ℕ → List ℕ → List Surface
-firstIn n b = records surfaceBytes surfaceOf n (drop countBytes b)
 
 -- Whether a surface stays in the discards by a registration or none, and by all plans.
 abbrev pub staysBy : Option MemoryInitKind → Range → Surface → Bool

@@ -25,11 +25,11 @@ ghost use Rattle.definition.specs.MemoryInit.{implicitAt, matching};
 ghost use Rattle.definition.specs.Pass.{newPass};
 ghost use Rattle.laws.specs.Records.{Appended};
 ghost use Rattle.laws.specs.Plans.{returnedBy, addedBy, listedBy, stayingAll, returnedAll, addedAll, listedAll, together};
-ghost use Rattle.lists.specs.Lists.{surfaceOf, actionOfBytes, countIn, surfacesIn, actionsIn, Room, SurfacesBecome, ActionsBecome};
+ghost use Rattle.lists.specs.Lists.{surfaceOf, actionOfBytes, countIn, surfacesIn, actionsIn, Room, SurfacesBecome, ActionsBecome, firstSurfaces};
 ghost use Rattle.lists.specs.Lent.{bytes, listsIn, Leaves};
 ghost use Rattle.memory_init.specs.Plans.{initKind, needs, planIn, plansIn, Whole};
 ghost use Rattle.memory_init.specs.Recording as R;
-ghost use Rattle.memory_init.specs.Recording.{firstIn, Keeps, looked, LentDiscards, Recordable};
+ghost use Rattle.memory_init.specs.Recording.{Keeps, looked, LentDiscards, Recordable};
 
 // ── actions
 
@@ -42,9 +42,9 @@ fn push_implicit_actions(
     y: usize,
 ) -> usize
     requires { ⌜ listBytes surfaceBytes n ≤ length (now discards) ⌝ }
-    requires { ⌜ listBytes actionBytes (y + length (matching range (firstIn n (now discards)))) ≤ length (now actions) ⌝ }
+    requires { ⌜ listBytes actionBytes (y + length (matching range (firstSurfaces n (now discards)))) ≤ length (now actions) ⌝ }
     ensures { λ r. ⌜
-        Appended actionBytes actionOfBytes y (map implicitAt (matching range (firstIn n (now (discards .entry)))))
+        Appended actionBytes actionOfBytes y (map implicitAt (matching range (firstSurfaces n (now (discards .entry)))))
         (drop countBytes (now (actions .entry))) (drop countBytes (now (actions .exit))) r ⌝ }
 {
     let mut end = y;
@@ -76,10 +76,10 @@ fn push_action(
 ) -> usize
     requires { ⌜ listBytes surfaceBytes n ≤ length (now discards) ⌝ }
     requires { ⌜
-        (let xs = addedBy (some kind) range (firstIn n (now discards)) in
+        (let xs = addedBy (some kind) range (firstSurfaces n (now discards)) in
         listBytes actionBytes (y + length xs) ≤ length (now actions)) ⌝ }
     ensures { λ r. ⌜
-        (let xs = addedBy (some kind) range (firstIn n (now (discards .entry))) in
+        (let xs = addedBy (some kind) range (firstSurfaces n (now (discards .entry))) in
         Appended actionBytes actionOfBytes y xs (drop countBytes (now (actions .entry))) (drop countBytes (now (actions .exit))) r) ⌝ }
 {
     put_action(actions, y, range, kind);
@@ -106,10 +106,10 @@ fn push_actions(
 ) -> usize
     requires { ⌜ listBytes surfaceBytes n ≤ length (now discards) ⌝ }
     requires { ⌜
-        (let xs = addedBy (initKind kind) range (firstIn n (now discards)) in
+        (let xs = addedBy (initKind kind) range (firstSurfaces n (now discards)) in
         listBytes actionBytes (y + length xs) ≤ length (now actions)) ⌝ }
     ensures { λ r. ⌜
-        (let xs = addedBy (initKind kind) range (firstIn n (now (discards .entry))) in
+        (let xs = addedBy (initKind kind) range (firstSurfaces n (now (discards .entry))) in
         Appended actionBytes actionOfBytes y xs (drop countBytes (now (actions .entry))) (drop countBytes (now (actions .exit))) r) ⌝ }
 {
     let InitKind::Some(k) = kind else {
@@ -122,9 +122,9 @@ fn push_actions(
 fn record_actions(discards: &[u8], n: usize, actions: &mut [u8], plans: Plans)
     requires { ⌜ Whole plans ⌝ }
     requires { ⌜ listBytes surfaceBytes n ≤ length (now discards) ⌝ }
-    requires { ⌜ Room actionBytes (countIn (now actions) + length (addedAll (plansIn plans) (firstIn n (now discards)))) (now actions) ⌝ }
+    requires { ⌜ Room actionBytes (countIn (now actions) + length (addedAll (plansIn plans) (firstSurfaces n (now discards)))) (now actions) ⌝ }
     ensures { λ _. ⌜
-        ActionsBecome (actionsIn (now (actions .entry)) ++ addedAll (plansIn plans) (firstIn n (now (discards .entry))))
+        ActionsBecome (actionsIn (now (actions .entry)) ++ addedAll (plansIn plans) (firstSurfaces n (now (discards .entry))))
         (now (actions .entry)) (now (actions .exit)) ⌝ }
 {
     let k = plans.count;
@@ -147,9 +147,9 @@ fn record_actions(discards: &[u8], n: usize, actions: &mut [u8], plans: Plans)
 // The first n discards that are in the range, from place y on.
 fn return_matching(discards: &[u8], n: usize, range: Range, clears: &mut [u8], y: usize) -> usize
     requires { ⌜ listBytes surfaceBytes n ≤ length (now discards) ⌝ }
-    requires { ⌜ listBytes surfaceBytes (y + length (matching range (firstIn n (now discards)))) ≤ length (now clears) ⌝ }
+    requires { ⌜ listBytes surfaceBytes (y + length (matching range (firstSurfaces n (now discards)))) ≤ length (now clears) ⌝ }
     ensures { λ r. ⌜
-        Appended surfaceBytes surfaceOf y (matching range (firstIn n (now (discards .entry))))
+        Appended surfaceBytes surfaceOf y (matching range (firstSurfaces n (now (discards .entry))))
         (drop countBytes (now (clears .entry))) (drop countBytes (now (clears .exit))) r ⌝ }
 {
     let mut end = y;
@@ -189,10 +189,10 @@ fn return_by(
 ) -> usize
     requires { ⌜ listBytes surfaceBytes n ≤ length (now discards) ⌝ }
     requires { ⌜
-        (let xs = returnedBy (initKind kind) range (firstIn n (now discards)) in
+        (let xs = returnedBy (initKind kind) range (firstSurfaces n (now discards)) in
         listBytes surfaceBytes (y + length xs) ≤ length (now clears)) ⌝ }
     ensures { λ r. ⌜
-        (let xs = returnedBy (initKind kind) range (firstIn n (now (discards .entry))) in
+        (let xs = returnedBy (initKind kind) range (firstSurfaces n (now (discards .entry))) in
         Appended surfaceBytes surfaceOf y xs (drop countBytes (now (clears .entry))) (drop countBytes (now (clears .exit))) r) ⌝ }
 {
     if !returns_clears(kind) {
@@ -205,9 +205,9 @@ fn return_by(
 fn return_clears(discards: &[u8], n: usize, clears: &mut [u8], plans: Plans)
     requires { ⌜ Whole plans ⌝ }
     requires { ⌜ listBytes surfaceBytes n ≤ length (now discards) ⌝ }
-    requires { ⌜ Room surfaceBytes (length (returnedAll (plansIn plans) (firstIn n (now discards)))) (now clears) ⌝ }
+    requires { ⌜ Room surfaceBytes (length (returnedAll (plansIn plans) (firstSurfaces n (now discards)))) (now clears) ⌝ }
     ensures { λ _. ⌜
-        SurfacesBecome (returnedAll (plansIn plans) (firstIn n (now (discards .entry)))) (now (clears .entry)) (now (clears .exit)) ⌝ }
+        SurfacesBecome (returnedAll (plansIn plans) (firstSurfaces n (now (discards .entry)))) (now (clears .entry)) (now (clears .exit)) ⌝ }
 {
     let k = plans.count;
     let planned = plans.planned;

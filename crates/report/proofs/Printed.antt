@@ -1,5 +1,5 @@
 -- A text is what is printed for a file, readable or refused.
-use mathlib.Core.Path.{_≡_, refl, sym, ap, subst, _∙_}
+use mathlib.Core.Path.{_≡_, sym, ap, subst, _∙_}
 use mathlib.Core.Logic.{_≢_}
 use mathlib.Core.List.{List}
 use mathlib.Core.Bool.{Bool, true, false, cond}
@@ -7,15 +7,14 @@ use Prim.Native.Nat.{ℕ, _≤_, _<_}
 use native.Mathlib.Omega.{arith}
 use borrow.Author.Tests.{eq-eqb, ne-eqb}
 use lib.Dec.{eqb}
-use lib.ListN.{length, replicate, length-replicate}
-use Rattle.definition.specs.Sizes.{maxPasses, longestSession, discardsBytes}
-use Rattle.definition.specs.Session.{Session, session, totalLength}
-use Rattle.definition.specs.Bytes.{u32At}
+use lib.ListN.{length}
+use Rattle.definition.specs.Sizes.{maxPasses, longestSession}
+use Rattle.definition.specs.Session.{session, totalLength}
 use Rattle.definition.specs.Readable.{sessionRefusal}
 use Rattle.definition.specs.Program.{deskcheck}
 use Rattle.session_validation.proofs.Valid.{valid-of}
-use Rattle.whole_session.specs.Rows.{firstRows, Reached}
-use Rattle.whole_session.proofs.Rows.{reached-first, rows-all}
+use Rattle.whole_session.specs.Rows.{firstRows}
+use Rattle.whole_session.proofs.Rows.{rows-all}
 use Rattle.report.specs.Text.{linesText, refusalText}
 use Rattle.report.specs.Output.{output}
 use Rattle.report.proofs.Long.{long-refused}
@@ -29,11 +28,6 @@ printed-rows s n z p =
 -- It has no more than the most passes.
 pub rows-few : (s : List ℕ) (n : ℕ) → sessionRefusal s ≡ 0 → n ≡ session s .passCount → n ≤ maxPasses
 rows-few s n z p = subst (λ k. k ≤ maxPasses) (sym p) (valid-of s z .passes)
-
--- It is judged from lent bytes that are all 0.
-pub fresh : (S : Session) (passes : ℕ) → Reached S passes 0 (replicate discardsBytes 0) 0
-unfolding u32At
-fresh S passes = reached-first S passes (replicate discardsBytes 0) (record { long = omega (arith, length-replicate {A = ℕ} discardsBytes 0); count = omega arith }) refl
 
 -- The line of a refused one.
 pub printed-refusal : (s : List ℕ) (n : ℕ) → n ≡ sessionRefusal s → n ≢ 0 → refusalText n ≡ output s

@@ -31,7 +31,7 @@ use Rattle.laws.proofs.Places.{surfaces-counted, place-counted}
 use Rattle.laws.proofs.Submission.{sweep-length, sweep-past, sweep-turn, sweep-same, sweep-either, sweep-only, sweeps-append, empties-append, submit-sweeps}
 use Rattle.laws.specs.Records.{records}
 use Rattle.laws.proofs.Records.{records-suc}
-use Rattle.lists.specs.Lists.{surfaceOf, actionOfBytes, countIn, surfacesIn, actionsIn, surfaceIn, actionIn}
+use Rattle.lists.specs.Lists.{surfaceOf, actionOfBytes, countIn, surfacesIn, actionsIn, surfaceIn, actionIn, firstSurfaces, firstActions}
 use Rattle.submission.specs.Runs.{run, firstMips, mipOf}
 
 -- ── ranges, one layer and one mip further
@@ -212,13 +212,6 @@ pub restart-all : (S : Session) (bytes : List ℕ) → surfaceCount S ≤ length
 restart-all S bytes room =
     restart-sweeps (surfacesOf S) (surfaceCount S) bytes (omega (arith, surfaces-counted S)) (omega (arith, surfaces-counted S))
     ∙ ap (λ ss. sweep (λ s b. restart b) ss bytes) (take-all (surfaceCount S) (surfacesOf S) (omega (arith, surfaces-counted S)))
-
--- The first n records of a lent list.
-abbrev pub firstActions : ℕ → List ℕ → List Action
-firstActions n b = records actionBytes actionOfBytes n (drop countBytes b)
-
-abbrev pub firstSurfaces : ℕ → List ℕ → List Surface
-firstSurfaces n b = records surfaceBytes surfaceOf n (drop countBytes b)
 
 -- No action and no discard.
 pub actions-none : (S : Session) (l bytes : List ℕ) → bytes ≡ sweepActs (firstActions 0 l) (surfacesOf S) bytes

@@ -6,9 +6,10 @@ use mathlib.Core.Path.{_≡_, refl, sym, ap, subst, _∙_}
 use mathlib.Core.Bool.{true, false}
 use mathlib.Core.List.{List, [], _∷_, _++_, append-nil, append-assoc}
 use lib.Dec.{eqb}
-use lib.ListN.{length, drop}
+use lib.ListN.{length, drop, replicate, length-replicate}
 use borrow.Author.Tests.{eq-eqb, ne-eqb}
-use Rattle.definition.specs.Sizes.{surfaceBytes, rowNumbers, rowBytes}
+use Rattle.definition.specs.Sizes.{surfaceBytes, discardsBytes, rowNumbers, rowBytes}
+use Rattle.definition.specs.Bytes.{u32At}
 use Rattle.definition.specs.Session.{Session}
 use Rattle.definition.specs.Pass.{Outcome, checkPass}
 use Rattle.definition.specs.Calls.{noEntries}
@@ -72,13 +73,18 @@ module _ (S : Session) (passes k : ℕ) where
     }
 
 -- Fresh lists.
-pub reached-first : (S : Session) (passes : ℕ) (d : List ℕ) → DiscardsInRoom d → countIn d ≡ 0 → Reached S passes 0 d 0
+reached-first : (S : Session) (passes : ℕ) (d : List ℕ) → DiscardsInRoom d → countIn d ≡ 0 → Reached S passes 0 d 0
 unfolding listsBefore
 reached-first S passes d held none = record {
   lists = record { discards = emptied {k = surfaceBytes} {decode = surfaceOf} {b = d} (record { count = none; behind = refl }) .list; actions = refl };
   held = held;
   few = omega arith;
 }
+
+-- Bytes that are all 0 hold none.
+pub reached-fresh : (S : Session) (passes : ℕ) → Reached S passes 0 (replicate discardsBytes 0) 0
+unfolding u32At
+reached-fresh S passes = reached-first S passes (replicate discardsBytes 0) (record { long = omega (arith, length-replicate {A = ℕ} discardsBytes 0); count = omega arith }) refl
 
 -- ── all of them
 

@@ -8,7 +8,8 @@ use borrow.Author.Needs.{needs}
 use Rattle.definition.specs.Session.{session}
 use Rattle.definition.specs.Calls.{actionsValid}
 use Rattle.laws.proofs.Tests.{and-right}
-use Rattle.buffer_validation.specs.Right.{isFlat, firstActions}
+use Rattle.lists.specs.Lists.{firstActions}
+use Rattle.buffer_validation.specs.Right.{isFlat}
 use Rattle.buffer_validation.proofs.Turns.{actions-none, actions-go}
 use Rattle.buffer_validation.proofs.actions_left.Statement.{statement}
 use Rattle.buffer_validation.proofs.actions_left.Tie as tie

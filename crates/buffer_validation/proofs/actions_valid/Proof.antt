@@ -7,8 +7,7 @@ use borrow.Author.Tests.{not-true, not-false}
 use borrow.Author.Needs.{needs}
 use Rattle.definition.specs.Session.{session}
 use Rattle.definition.specs.Calls.{actionsValid}
-use Rattle.lists.specs.Lists.{countIn}
-use Rattle.buffer_validation.specs.Right.{firstActions}
+use Rattle.lists.specs.Lists.{countIn, firstActions}
 use Rattle.buffer_validation.proofs.Turns.{actions-go, actions-stop}
 use Rattle.buffer_validation.proofs.actions_valid.Statement.{statement}
 use Rattle.buffer_validation.proofs.actions_valid.Tie as tie

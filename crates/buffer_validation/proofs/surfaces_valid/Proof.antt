@@ -7,8 +7,7 @@ use borrow.Author.Tests.{not-true, not-false}
 use borrow.Author.Needs.{needs}
 use Rattle.definition.specs.Session.{session}
 use Rattle.definition.specs.Calls.{surfacesValid}
-use Rattle.lists.specs.Lists.{countIn}
-use Rattle.buffer_validation.specs.Right.{firstSurfaces}
+use Rattle.lists.specs.Lists.{countIn, firstSurfaces}
 use Rattle.buffer_validation.proofs.Turns.{surfaces-none, surfaces-go, surfaces-stop}
 use Rattle.buffer_validation.proofs.surfaces_valid.Statement.{statement}
 use Rattle.buffer_validation.proofs.surfaces_valid.Tie as tie

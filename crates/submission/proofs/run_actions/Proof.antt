@@ -7,9 +7,9 @@ use Rattle.definition.specs.Session.{session, surfacesOf}
 use Rattle.laws.specs.Surfaces.{RangeInside}
 use Rattle.laws.specs.Submission.{sweepActs}
 use Rattle.laws.proofs.Surfaces.{range-inside}
-use Rattle.lists.specs.Lists.{countIn, actionIn}
+use Rattle.lists.specs.Lists.{countIn, actionIn, firstActions}
 use borrow.Author.Needs.{needs}
-use Rattle.submission.proofs.Sweeps.{firstActions, actions-none, action-further}
+use Rattle.submission.proofs.Sweeps.{actions-none, action-further}
 use Rattle.submission.proofs.Lent.{actions-each}
 use Rattle.submission.proofs.run_actions.Statement.{statement}
 use Rattle.submission.proofs.run_actions.Tie as tie

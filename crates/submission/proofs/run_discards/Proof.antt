@@ -9,8 +9,8 @@ use Rattle.laws.specs.Surfaces.{Inside}
 use Rattle.laws.specs.Submission.{sweep, emptyAt}
 use Rattle.laws.proofs.Surfaces.{surface-inside}
 use Rattle.laws.proofs.Places.{place-counted}
-use Rattle.lists.specs.Lists.{countIn, surfaceIn}
-use Rattle.submission.proofs.Sweeps.{firstSurfaces, discards-none, discard-further}
+use Rattle.lists.specs.Lists.{countIn, surfaceIn, firstSurfaces}
+use Rattle.submission.proofs.Sweeps.{discards-none, discard-further}
 use Rattle.submission.proofs.Lent.{surfaces-each}
 use Rattle.submission.proofs.run_discards.Statement.{statement}
 use Rattle.submission.proofs.run_discards.Tie as tie

@@ -1,30 +1,23 @@
 -- A readable session has no more passes than there may be, so that the rows fit; its views can be read, and an array of zeros has no discards.
-use mathlib.Core.Path.{_≡_, refl, subst}
+use mathlib.Core.Path.{_≡_, subst}
 use native.Mathlib.Omega.{arith}
 use Prim.Native.Nat.{ℕ, _*_}
 use borrow.Author.Needs.{needs}
-use lib.ListN.{drop, replicate}
-use Rattle.definition.specs.Sizes.{discardsBytes, rowBytes}
-use Rattle.definition.specs.Bytes.{u32At}
+use lib.ListN.{drop}
+use Rattle.definition.specs.Sizes.{rowBytes}
 use Rattle.definition.specs.Session.{session}
 use Rattle.laws.proofs.Readable.{tested}
 use Rattle.session_validation.proofs.Valid.{valid-of}
-use Rattle.lists.specs.Lists.{countIn}
 use Rattle.whole_session.specs.Rows.{rowsIn, firstRows}
-use Rattle.whole_session.proofs.Rows.{reached-first}
+use Rattle.whole_session.proofs.Rows.{reached-fresh}
 use Rattle.whole_session.proofs.session_rows.Statement.{statement}
 use Rattle.whole_session.proofs.session_rows.Tie as tie
-
--- Zeros count none.
-none-listed : countIn (replicate discardsBytes 0) ≡ 0
-unfolding u32At
-none-listed = refl
 
 put-rows-requires : tie.Need-put-rows-requires
 put-rows-requires c κs =
     let at = c .before .before .before .before .before in
     let passes = c .before .before .pass-count .ensures in
-    (tested _ (at .pre .0) .views, (reached-first _ _ _ (record { long = omega arith; count = omega (arith, none-listed) }) none-listed, omega (arith, at .pre .1, passes, valid-of _ (at .pre .0) .passes)))
+    (tested _ (at .pre .0) .views, (reached-fresh _ _, omega (arith, at .pre .1, passes, valid-of _ (at .pre .0) .passes)))
 
 returns : tie.Need-returns
 returns c =

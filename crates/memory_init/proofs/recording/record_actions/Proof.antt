@@ -7,10 +7,9 @@ use Prim.Native.Nat.{_-_, _≤_}
 use lib.ListN.{length, take, drop}
 use Rattle.definition.specs.Sizes.{actionBytes, countBytes}
 use Rattle.laws.specs.Plans.{addedAll}
-use Rattle.lists.specs.Lists.{actionOfBytes, countIn}
+use Rattle.lists.specs.Lists.{actionOfBytes, countIn, firstSurfaces}
 use Rattle.lists.proofs.Lists.{append-becomes}
 use Rattle.memory_init.specs.Plans.{planIn}
-use Rattle.memory_init.specs.Recording.{firstIn}
 use Rattle.memory_init.proofs.Entries.{Appending, appending-start, appending-count, added, plan-room, plan-turn, plan-done}
 use Rattle.memory_init.proofs.recording.record_actions.Statement.{statement}
 use Rattle.memory_init.proofs.recording.record_actions.Tie as tie
@@ -18,7 +17,7 @@ use Rattle.memory_init.proofs.recording.record_actions.Tie as tie
 abbrev Inv-loop : tie.InvT-loop
 Inv-loop discards n actions₀ k planned end₀ i₀ actions end i =
     let ps = map planIn (take k planned) in
-    let d = firstIn n discards in
+    let d = firstSurfaces n discards in
     Appending actionBytes actionOfBytes (countIn actions₀) (addedAll ps d) (drop countBytes actions₀) (addedAll (drop i ps) d) (drop countBytes actions) end × (length actions ≡ length actions₀) × (i ≤ k)
 
 abbrev μ-loop : tie.MeasureT-loop
@@ -32,7 +31,7 @@ push-actions-requires c κs =
     let turn = c .before .before .before in
     let at = turn .before in
     let start = at .before .before .before .before .before .before in
-    let d = firstIn (start .args .n) (start .args .discards .now) in
+    let d = firstSurfaces (start .args .n) (start .args .discards .now) in
     (omega arith, plan-room (added d) (start .args .plans) (start .pre .0) (at .loop .i) (at .loop .inv .0) _ _ (turn .loop-test .taken) (omega (arith, at .loop .inv .1, start .pre .1 .1 .bytes)))
 
 loop-again : tie.Need-loop-again Inv-loop μ-loop
@@ -41,7 +40,7 @@ loop-again c =
     let turn = call .before .before .before .before in
     let at = turn .before in
     let start = at .before .before .before .before .before .before in
-    let d = firstIn (start .args .n) (start .args .discards .now) in (
+    let d = firstSurfaces (start .args .n) (start .args .discards .now) in (
       plan-turn (added d) (start .args .plans) (start .pre .0) (at .loop .i) (at .loop .inv .0) _ (turn .loop-test .taken) (call .push-actions .ensures),
       call .push-actions .kept .1 .1 .1 .1 .0 ∙ at .loop .inv .1,
       omega (arith, turn .loop-test .taken),
@@ -56,7 +55,7 @@ returns c =
     let over = set .before .before in
     let at = over .before in
     let start = at .before .before .before .before .before .before in
-    let d = firstIn (start .args .n) (start .args .discards .now) in
+    let d = firstSurfaces (start .args .n) (start .args .discards .now) in
     append-becomes (start .args .actions .now)
     (plan-done (added d) (start .args .plans) (start .pre .0) (at .loop .i) (at .loop .inv .0) (omega (arith, over .loop-test .left, at .loop .inv .2)))
     (set .set-count .ensures)

@@ -6,9 +6,8 @@ use Prim.Native.Nat.{_-_, _≤_}
 use lib.ListN.{length, take, drop}
 use Rattle.definition.specs.Sizes.{surfaceBytes, countBytes}
 use Rattle.laws.specs.Plans.{returnedAll}
-use Rattle.lists.specs.Lists.{surfaceOf}
+use Rattle.lists.specs.Lists.{surfaceOf, firstSurfaces}
 use Rattle.memory_init.specs.Plans.{planIn}
-use Rattle.memory_init.specs.Recording.{firstIn}
 use Rattle.memory_init.proofs.Entries.{Appending, appending-start, appending-count, returned, plan-room, plan-turn, plan-done, replace-becomes}
 use Rattle.memory_init.proofs.recording.return_clears.Statement.{statement}
 use Rattle.memory_init.proofs.recording.return_clears.Tie as tie
@@ -16,7 +15,7 @@ use Rattle.memory_init.proofs.recording.return_clears.Tie as tie
 abbrev Inv-loop : tie.InvT-loop
 Inv-loop discards n clears₀ k planned end₀ i₀ clears end i =
     let ps = map planIn (take k planned) in
-    let d = firstIn n discards in
+    let d = firstSurfaces n discards in
     Appending surfaceBytes surfaceOf 0 (returnedAll ps d) (drop countBytes clears₀) (returnedAll (drop i ps) d) (drop countBytes clears) end × (length clears ≡ length clears₀) × (i ≤ k)
 
 abbrev μ-loop : tie.MeasureT-loop
@@ -30,7 +29,7 @@ return-by-requires c κs =
     let turn = c .before .before .before in
     let at = turn .before in
     let start = at .before .before .before .before in
-    let d = firstIn (start .args .n) (start .args .discards .now) in
+    let d = firstSurfaces (start .args .n) (start .args .discards .now) in
     (omega arith, plan-room (returned d) (start .args .plans) (start .pre .0) (at .loop .i) (at .loop .inv .0) _ _ (turn .loop-test .taken) (omega (arith, at .loop .inv .1, start .pre .1 .1 .bytes)))
 
 loop-again : tie.Need-loop-again Inv-loop μ-loop
@@ -39,7 +38,7 @@ loop-again c =
     let turn = call .before .before .before .before in
     let at = turn .before in
     let start = at .before .before .before .before in
-    let d = firstIn (start .args .n) (start .args .discards .now) in (
+    let d = firstSurfaces (start .args .n) (start .args .discards .now) in (
       plan-turn (returned d) (start .args .plans) (start .pre .0) (at .loop .i) (at .loop .inv .0) _ (turn .loop-test .taken) (call .return-by .ensures),
       call .return-by .kept .1 .1 .1 .1 .0 ∙ at .loop .inv .1,
       omega (arith, turn .loop-test .taken),
@@ -54,7 +53,7 @@ returns c =
     let over = set .before .before in
     let at = over .before in
     let start = at .before .before .before .before in
-    let d = firstIn (start .args .n) (start .args .discards .now) in
+    let d = firstSurfaces (start .args .n) (start .args .discards .now) in
     replace-becomes (start .args .clears .now)
     (plan-done (returned d) (start .args .plans) (start .pre .0) (at .loop .i) (at .loop .inv .0) (omega (arith, over .loop-test .left, at .loop .inv .2)))
     (set .set-count .ensures)
