@@ -9,7 +9,7 @@ log=$(mktemp) || exit 1
 trap 'rm -f "$log"' EXIT
 
 ../tools/library.sh
-../tools/library.sh memory_init
+../tools/library.sh texture_surface_discards
 ../tools/library.sh columns
 for program in deskcheck to_columns to_rows; do
     [ -f "../target/bin/$program" ] || (cd .. && rt check "$program")

@@ -1,8 +1,8 @@
-//! Links the proved library of `crates/memory_init`.
+//! Links the proved library of `crates/texture_surface_discards`.
 
 #[path = "../link.rs"]
 mod link;
 
 fn main() {
-    link::library("memory_init");
+    link::library("texture_surface_discards");
 }

@@ -10,7 +10,7 @@ use Rattle.definition.specs.Bytes.{u32At}
 use Rattle.definition.specs.declared.Attachment.{Attachment}
 use Rattle.definition.specs.declared.Color.{Color}
 use Rattle.whole_session.specs.Numbers.{numbersAt}
-use Rattle.desk.specs.declared.reply.Reply.{Reply}
+use Rattle.render_pass.specs.declared.Reply.{Reply}
 use Rattle.answer_words.specs.declared.Place.{Place}
 
 -- Bytes of a word.

@@ -32,21 +32,20 @@ use definition::verdicts::unless;
 use definition::verdicts::unless_against;
 use overlap::check_attachment_overlap;
 use overlap::check_resolve_overlap;
+use session::PassRow;
 use session::depth_stencil;
 use session::derived::depth_of;
-use session::derived::height_of;
+use session::derived::extent_of;
 use session::derived::is_d2;
 use session::derived::is_d2_array;
 use session::derived::is_d3;
 use session::derived::is_none;
-use session::derived::samples_of;
 use session::derived::transient;
-use session::derived::width_of;
 use session::formats::is_color;
 use session::formats::with_color;
 use session::header::color_bytes;
-use session::slot;
 use session::slot_view;
+use session::slot_without_clear;
 use session::view;
 use session::view_format;
 use views::add_view;
@@ -63,6 +62,7 @@ ghost use Rattle.definition.specs.Sizes.{maxSlots};
 ghost use Rattle.definition.specs.Session.{session};
 ghost use Rattle.definition.specs.Views as Vw;
 ghost use Rattle.definition.specs.Check as Ck;
+ghost use Rattle.session.specs.Rows.{passIn};
 ghost use Rattle.attachment_checks.specs.Taken.{takenIn};
 
 // 39, 38 and 40: a slice is given for a D3 view, inside its mip's depth, and for no other.
@@ -76,7 +76,7 @@ fn slice_verdict(s: &[u8], c: Slot, v: View, place: u32) -> Verdict
 }
 
 // The colour view v of slot k, of a pass whose colours fit into a sample or not: 30 to 40, 51, 41.
-fn color_view(s: &[u8], pass: u32, seen: Seen, fit: bool, c: Slot, v: View, k: u32) -> Verdict
+fn color_view(s: &[u8], pass: PassRow, seen: Seen, fit: bool, c: Slot, v: View, k: u32) -> Verdict
     ensures { λ r. ⌜ r ≡ Vw.colorView (session (now (s .entry))) seen fit (takenIn (now (s .entry)) pass k) c v k ⌝ }
 {
     let layers = check_multiview(s, seen, v, k);
@@ -91,17 +91,10 @@ fn color_view(s: &[u8], pass: u32, seen: Seen, fit: bool, c: Slot, v: View, k: u
     )
 }
 
-// Whether two views have the same width and height.
-fn same_extent(s: &[u8], v: View, w: View) -> bool
-    ensures { λ r. ⌜ r ≡ Vw.sameExtent (session (now (s .entry))) v w ⌝ }
-{
-    (width_of(s, v) == width_of(s, w)) & (height_of(s, v) == height_of(s, w))
-}
-
 // A resolve target by itself: 30 to 33, 48, 41 and 34. Its colour view v is taken, and so is what the slots before k take.
 fn target_view(
     s: &[u8],
-    pass: u32,
+    pass: PassRow,
     seen: Seen,
     k: u32,
     v: View,
@@ -128,14 +121,19 @@ fn target_view(
 fn target_of(s: &[u8], seen: Seen, v: View, target: View, place: u32) -> Verdict
     ensures { λ r. ⌜ r ≡ Vw.targetOf (session (now (s .entry))) seen v target place ⌝ }
 {
-    let resolves = (samples_of(s, v) != 1) & (samples_of(s, target) == 1);
+    let from = extent_of(s, v);
+    let to = extent_of(s, target);
     let extent = unless_against(
-        same_extent(s, v, target),
+        (from.width == to.width) & (from.height == to.height),
         DIMENSION_MISMATCH,
         place,
         seen.last,
     );
-    let samples = unless(resolves, INVALID_RESOLVE_SAMPLE_COUNTS, place);
+    let samples = unless(
+        (from.samples != 1) & (to.samples == 1),
+        INVALID_RESOLVE_SAMPLE_COUNTS,
+        place,
+    );
     let format = unless(v.format == target.format, MISMATCHED_RESOLVE_FORMAT, place);
     let resolvable = unless(target.resolvable == 1, UNSUPPORTED_RESOLVE_FORMAT, place);
     let kept = unless(!transient(target), INVALID_TRANSIENT_RESOLVE_TARGET, place);
@@ -145,7 +143,7 @@ fn target_of(s: &[u8], seen: Seen, v: View, target: View, place: u32) -> Verdict
 // The resolve target of slot k, whose colour view is v: 30 to 33, 48, 41, 34, 35, 42 to 45.
 fn resolve_view(
     s: &[u8],
-    pass: u32,
+    pass: PassRow,
     seen: Seen,
     k: u32,
     v: View,
@@ -164,8 +162,8 @@ fn resolve_view(
 }
 
 // The depth-stencil view of the pass, where it has one.
-pub fn depth_stencil_step(s: &[u8], pass: u32) -> Progress
-    ensures { λ r. ⌜ r ≡ Ck.depthStencilStep (session (now (s .entry))) (session (now (s .entry)) .pass pass) ⌝ }
+pub fn depth_stencil_step(s: &[u8], pass: PassRow) -> Progress
+    ensures { λ r. ⌜ r ≡ Ck.depthStencilStep (session (now (s .entry))) (passIn (now (s .entry)) pass) ⌝ }
 {
     let k = depth_stencil(s, pass);
     let seen = none_seen();
@@ -183,7 +181,7 @@ pub fn depth_stencil_step(s: &[u8], pass: u32) -> Progress
 }
 
 // The resolve target of slot k, whose colour view is v, where it has one.
-fn resolve_step(s: &[u8], pass: u32, seen: Seen, c: Slot, v: View, k: u32) -> Progress
+fn resolve_step(s: &[u8], pass: PassRow, seen: Seen, c: Slot, v: View, k: u32) -> Progress
     requires { ⌜ k < maxSlots ⌝ }
     ensures { λ r. ⌜ r ≡ Ck.resolveStep (session (now (s .entry))) seen (takenIn (now (s .entry)) pass k) c v k ⌝ }
 {
@@ -202,7 +200,7 @@ fn resolve_step(s: &[u8], pass: u32, seen: Seen, c: Slot, v: View, k: u32) -> Pr
 }
 
 // The colour view v of slot k, then its resolve target.
-fn color_step(s: &[u8], pass: u32, seen: Seen, fit: bool, c: Slot, v: View, k: u32) -> Progress
+fn color_step(s: &[u8], pass: PassRow, seen: Seen, fit: bool, c: Slot, v: View, k: u32) -> Progress
     requires { ⌜ k < maxSlots ⌝ }
     ensures { λ r. ⌜ r ≡ Ck.colorStep (session (now (s .entry))) seen fit (takenIn (now (s .entry)) pass k) c v k ⌝ }
 {
@@ -217,11 +215,11 @@ fn color_step(s: &[u8], pass: u32, seen: Seen, fit: bool, c: Slot, v: View, k: u
 }
 
 // Slot k, where it is not empty.
-fn slot_step(s: &[u8], pass: u32, fit: bool, k: u32, seen: Seen) -> Progress
+fn slot_step(s: &[u8], pass: PassRow, fit: bool, k: u32, seen: Seen) -> Progress
     requires { ⌜ k < maxSlots ⌝ }
-    ensures { λ r. ⌜ r ≡ Ck.slotStep (session (now (s .entry))) (session (now (s .entry)) .pass pass) fit k seen ⌝ }
+    ensures { λ r. ⌜ r ≡ Ck.slotStep (session (now (s .entry))) (passIn (now (s .entry)) pass) fit k seen ⌝ }
 {
-    let c = slot(s, pass, k);
+    let c = slot_without_clear(s, pass, k);
     if is_none(c.view) {
         return Progress {
             verdict: accepted(),
@@ -232,9 +230,9 @@ fn slot_step(s: &[u8], pass: u32, fit: bool, k: u32, seen: Seen) -> Progress
 }
 
 // Slot k after a: nothing more once the pass is refused.
-fn next_slot(s: &[u8], pass: u32, fit: bool, k: u32, a: Progress) -> Progress
+fn next_slot(s: &[u8], pass: PassRow, fit: bool, k: u32, a: Progress) -> Progress
     requires { ⌜ k < maxSlots ⌝ }
-    ensures { λ r. ⌜ r ≡ Ck.nextSlot (session (now (s .entry))) (session (now (s .entry)) .pass pass) fit k a ⌝ }
+    ensures { λ r. ⌜ r ≡ Ck.nextSlot (session (now (s .entry))) (passIn (now (s .entry)) pass) fit k a ⌝ }
 {
     let judged = a.verdict;
     if is_accepted(judged) {
@@ -252,9 +250,9 @@ fn slots_of(n: u32) -> u32
 }
 
 // The bytes of a sample with slot k more: at most 19.
-fn with_slot(s: &[u8], pass: u32, k: u32, bytes: u32) -> u64
+fn with_slot(s: &[u8], pass: PassRow, k: u32, bytes: u32) -> u64
     ensures { λ r. ⌜
-        (r ≡ Ck.withSlot (session (now (s .entry))) (session (now (s .entry)) .pass pass .slot k) bytes)
+        (r ≡ Ck.withSlot (session (now (s .entry))) (passIn (now (s .entry)) pass .slot k) bytes)
         × (r ≤ bytes + 19) ⌝ }
 {
     let v = slot_view(s, pass, k);
@@ -265,8 +263,8 @@ fn with_slot(s: &[u8], pass: u32, k: u32, bytes: u32) -> u64
 }
 
 // The colour bytes of a sample, of the first n slots, and of no more than a pass may have.
-fn sample_bytes(s: &[u8], pass: u32, n: u32) -> u32
-    ensures { λ r. ⌜ r ≡ Ck.sampleBytes (session (now (s .entry))) (session (now (s .entry)) .pass pass) (min n maxSlots) ⌝ }
+fn sample_bytes(s: &[u8], pass: PassRow, n: u32) -> u32
+    ensures { λ r. ⌜ r ≡ Ck.sampleBytes (session (now (s .entry))) (passIn (now (s .entry)) pass) (min n maxSlots) ⌝ }
 {
     let slots = slots_of(n);
     let mut bytes = 0u32;
@@ -279,17 +277,17 @@ fn sample_bytes(s: &[u8], pass: u32, n: u32) -> u32
 }
 
 // Whether they are within the session's limit.
-pub fn bytes_fit(s: &[u8], pass: u32, n: u32) -> bool
+pub fn bytes_fit(s: &[u8], pass: PassRow, n: u32) -> bool
     ensures { λ r. ⌜
-        (let bytes = Ck.sampleBytes (session (now (s .entry))) (session (now (s .entry)) .pass pass) (min n maxSlots) in
+        (let bytes = Ck.sampleBytes (session (now (s .entry))) (passIn (now (s .entry)) pass) (min n maxSlots) in
         r ≡ leb bytes (session (now (s .entry)) .colorBytes)) ⌝ }
 {
     sample_bytes(s, pass, n) <= color_bytes(s)
 }
 
 // The first n slots, after a. No more are looked at than a pass may have: one of more is refused as 5.
-pub fn slot_steps(s: &[u8], pass: u32, fit: bool, a: Progress, n: u32) -> Progress
-    ensures { λ r. ⌜ r ≡ Ck.slotSteps (session (now (s .entry))) (session (now (s .entry)) .pass pass) fit a (min n maxSlots) ⌝ }
+pub fn slot_steps(s: &[u8], pass: PassRow, fit: bool, a: Progress, n: u32) -> Progress
+    ensures { λ r. ⌜ r ≡ Ck.slotSteps (session (now (s .entry))) (passIn (now (s .entry)) pass) fit a (min n maxSlots) ⌝ }
 {
     let slots = slots_of(n);
     let mut b = a;

@@ -12,18 +12,17 @@ use definition::refusals::SAMPLE_COUNT_MISMATCH;
 use definition::refusals::TOO_MANY_MULTIVIEW_VIEWS;
 use definition::verdicts::AT_DEPTH_STENCIL;
 use definition::verdicts::NOWHERE;
+use definition::verdicts::accepted;
 use definition::verdicts::either;
 use definition::verdicts::then;
 use definition::verdicts::unless;
 use definition::verdicts::unless_against;
-use session::derived::height_of;
+use session::derived::extent_of;
 use session::derived::is_d2;
 use session::derived::is_d2_array;
 use session::derived::is_d3;
 use session::derived::multiview;
 use session::derived::render_attachment;
-use session::derived::samples_of;
-use session::derived::width_of;
 use session::header::max_multiview;
 ghost use mathlib.Core.Path.{_≡_};
 ghost use Rattle.definition.specs.Session.{session};
@@ -63,20 +62,23 @@ pub fn renderable(v: View) -> bool
     render_attachment(v) & (is_d2(v) | is_d2_array(v) | is_d3(v)) & (v.mips == 1)
 }
 
-// 30; then 32 and 33 for the first view, 31 for the others.
+// 30; then 32 and 33 for the first view, 31 for the others. A view of one layer needs neither feature nor limit.
 pub fn check_multiview(s: &[u8], seen: Seen, v: View, place: u32) -> Verdict
     ensures { λ r. ⌜ r ≡ Vw.multiviewVerdict (session (now (s .entry))) seen v place ⌝ }
 {
-    let one = one_layer(v);
-    let array = unless(one | is_d2_array(v), MULTIVIEW_DIMENSION_MISMATCH, place);
-    let feature = unless(one | multiview(s), MISSING_MULTIVIEW, place);
+    let first = is_first(seen);
+    let matching = unless(v.layers == seen.layers, MULTIVIEW_MISMATCH, place);
+    if one_layer(v) {
+        return either(first, accepted(), matching);
+    }
+    let array = unless(is_d2_array(v), MULTIVIEW_DIMENSION_MISMATCH, place);
+    let feature = unless(multiview(s), MISSING_MULTIVIEW, place);
     let most = unless(
-        one | (v.layers <= max_multiview(s)),
+        v.layers <= max_multiview(s),
         TOO_MANY_MULTIVIEW_VIEWS,
         place,
     );
-    let matching = unless(v.layers == seen.layers, MULTIVIEW_MISMATCH, place);
-    then(array, either(is_first(seen), then(feature, most), matching))
+    then(array, either(first, then(feature, most), matching))
 }
 
 // 34 to 36: renderable, and of the extent and sample count of the views before it.
@@ -84,8 +86,9 @@ pub fn add_view(s: &[u8], seen: Seen, v: View, place: u32) -> Verdict
     ensures { λ r. ⌜ r ≡ Vw.viewVerdict (session (now (s .entry))) seen v place ⌝ }
 {
     let first = is_first(seen);
-    let same_extent = (width_of(s, v) == seen.width) & (height_of(s, v) == seen.height);
-    let same_samples = samples_of(s, v) == seen.samples;
+    let e = extent_of(s, v);
+    let same_extent = (e.width == seen.width) & (e.height == seen.height);
+    let same_samples = e.samples == seen.samples;
     let target = unless(renderable(v), NOT_RENDERABLE, place);
     let extent = unless_against(first | same_extent, DIMENSION_MISMATCH, place, seen.last);
     let samples = unless_against(
@@ -113,11 +116,12 @@ pub fn see_view(s: &[u8], seen: Seen, v: View, place: u32) -> Seen
     ensures { λ r. ⌜ r ≡ Vw.seeView (session (now (s .entry))) seen v place ⌝ }
 {
     if is_first(seen) {
+        let e = extent_of(s, v);
         return Seen {
             layers: v.layers,
-            width: width_of(s, v),
-            height: height_of(s, v),
-            samples: samples_of(s, v),
+            width: e.width,
+            height: e.height,
+            samples: e.samples,
             last: place,
         };
     }

@@ -1,3 +1,3 @@
 pub mod DepthStencil
 pub mod Resolving
-pub mod Plans
+pub mod Effects

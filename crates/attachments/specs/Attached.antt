@@ -3,18 +3,12 @@ use mathlib.Core.Path.{_≡_}
 use mathlib.Core.Bool.{true, false}
 use mathlib.Core.List.{List, [], _∷_}
 use Rattle.definition.specs.Session.{Session}
-use Rattle.definition.specs.Attachments.{Attached, rangeIn, kindOf, discards, divergentOf}
+use Rattle.definition.specs.Attachments.{Attached, divergentOf}
 use Rattle.definition.specs.Pass.{black, zero32, attachmentReply, depthReadOnly, stencilReadOnly}
 use Rattle.definition.specs.declared.Attachment.{Attachment}
-use Rattle.memory_init.specs.declared.Planned.{Planned}
-use Rattle.memory_init.specs.Plans.{initKind}
+use Rattle.laws.specs.Plans.{planOf}
+use Rattle.memory_init.specs.Plans.{planIn}
 use Rattle.attachments.specs.declared.DepthStencilPart.{DepthStencilPart}
-
--- p is what the attachment x does to the lists.
-pub record PlannedAs (p : Planned) (x : Attached) : Type 0 where
-  pub range : p .range ≡ rangeIn x
-  pub kind : initKind (p .kind) ≡ kindOf x
-  pub discards : p .discards ≡ discards x
 
 -- A record of a reply that stands for no attachment.
 abbrev pub blank : Attachment
@@ -23,7 +17,7 @@ blank = record { view = 0; usage = 0; ops = 0; «stencil_ops» = 0; color = blac
 -- d is the depth-stencil attachment x.
 pub record Present (S : Session) (d : DepthStencilPart) (x : Attached) : Type 0 where
   pub present : d .present ≡ true
-  pub planned : PlannedAs (d .planned) x
+  pub planned : planIn (d .planned) ≡ planOf x
   pub reply : d .reply ≡ attachmentReply S x
   pub depth : d .«is_depth_read_only» ≡ depthReadOnly x
   pub stencil : d .«is_stencil_read_only» ≡ stencilReadOnly x

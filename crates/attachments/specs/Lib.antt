@@ -1,4 +1,4 @@
 -- The root of what this crate means beyond the definition.
 pub mod Attached
-pub mod Plan
+pub mod Effect
 pub mod Resolved

@@ -1,17 +1,15 @@
--- The attachments of a pass, resolved: what they do to the lists, and what the reply says of them.
+-- The attachments of a pass: what they do to the lists, and what the reply says of them.
 use Prim.Native.Nat.{ℕ, zero, suc, _≤_}
 use mathlib.Core.Path.{_≡_}
 use mathlib.Core.List.{List, [], _∷_, map}
 use lib.ListN.{length}
 use Rattle.definition.specs.Sizes.{maxAttachments}
-use Rattle.definition.specs.Session.{Session}
 use Rattle.definition.specs.Attachments.{Attached}
-use Rattle.definition.specs.Pass.{attachmentReply}
 use Rattle.definition.specs.declared.Attachment.{Attachment}
 use Rattle.laws.specs.Plans.{planOf}
+use Rattle.memory_init.specs.declared.Plans.{Plans}
 use Rattle.memory_init.specs.Plans.{plansIn, Whole}
 use Rattle.attachments.specs.declared.resolve.Attachments.{Attachments}
-use Rattle.attachments.specs.declared.resolve.Resolution.{Resolution}
 use Rattle.attachments.specs.Attached.{blank}
 
 -- n records: the first n of xs, and blank ones after the last.
@@ -24,9 +22,8 @@ padded (suc n) (x ∷ xs) = x ∷ padded n xs
 abbrev pub listed : List Attachment → Attachments
 listed xs = record { records = padded maxAttachments xs; count = length xs }
 
--- r is what the attachments xs do and reply.
-pub record Resolved (S : Session) (xs : List Attached) (r : Resolution) : Type 0 where
-  pub plans : plansIn (r .plans) ≡ map planOf xs
-  pub whole : Whole (r .plans)
+-- ps is what the attachments xs do to the lists.
+pub record PlansOf (xs : List Attached) (ps : Plans) : Type 0 where
+  pub plans : plansIn ps ≡ map planOf xs
+  pub whole : Whole ps
   pub few : length xs ≤ maxAttachments
-  pub replies : r .replies ≡ listed (map (attachmentReply S) xs)

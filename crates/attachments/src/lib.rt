@@ -1,27 +1,28 @@
 // The attachments of a pass, each alone: what it does to the lists and what it replies (RenderPassInfo::start, finish).
-// In `plan`: the action, the discard and the divergent aspect by its operations alone; in `resolve` all attachments, in one walk.
+// In `effect`: the action, the discard and the divergent aspect by its operations alone; in `resolve` all attachments of a pass.
 // Every function is total, and its contract is an equation with the definition, under the translations of specs/.
-pub mod plan;
+pub mod effect;
 pub mod resolve;
 
-use channel::color::black;
 use channel::color::ops_of;
 use definition::Attachment;
 use definition::Range;
 use definition::Slot;
 use definition::View;
+use definition::black;
 use depth_stencil::depth::ResolvedDepth;
 use depth_stencil::depth::depth_resolved;
 use depth_stencil::stencil::ResolvedStencil;
 use depth_stencil::stencil::stencil_resolved;
+use effect::COLOR_TARGET;
+use effect::NO_ASPECT;
+use effect::color_effect;
+use effect::depth_stencil_effect;
+use effect::depth_stencil_usage;
+use effect::resolve_effect;
 use memory_init::InitKind;
 use memory_init::Planned;
-use plan::COLOR_TARGET;
-use plan::NO_ASPECT;
-use plan::color_plan;
-use plan::depth_stencil_plan;
-use plan::depth_stencil_usage;
-use plan::resolve_plan;
+use session::PassRow;
 use session::depth;
 use session::depth_stencil;
 use session::derived::is_none;
@@ -43,7 +44,10 @@ ghost use Rattle.definition.specs.Pass.{attachmentReply, depthStencilUsage, dep
 ghost use Rattle.definition.specs.declared.Range as Ra;
 ghost use Rattle.depth_stencil.specs.Depth as De;
 ghost use Rattle.depth_stencil.specs.Stencil as St;
-ghost use Rattle.attachments.specs.Attached.{PlannedAs, Present, Absent, PartOf, blank};
+ghost use Rattle.laws.specs.Plans.{planOf};
+ghost use Rattle.session.specs.Rows.{passIn};
+ghost use Rattle.memory_init.specs.Plans.{planIn};
+ghost use Rattle.attachments.specs.Attached.{Present, Absent, PartOf, blank};
 
 // The depth-stencil attachment of a pass, if it has one: what it does to the lists, what it replies, which channels it
 // only reads, and the aspect that is cleared after the pass.
@@ -74,16 +78,16 @@ pub fn empty_reply() -> Attachment
 // ── depth-stencil
 
 // The depth channel of a pass, resolved for a format.
-fn depth_ops(s: &[u8], pass: u32, format: u32) -> ResolvedDepth
-    ensures { λ r. ⌜ De.opsIn r ≡ At.depthOps (session (now (s .entry))) (session (now (s .entry)) .pass pass) format ⌝ }
+fn depth_ops(s: &[u8], pass: PassRow, format: u32) -> ResolvedDepth
+    ensures { λ r. ⌜ De.opsIn r ≡ At.depthOps (session (now (s .entry))) (passIn (now (s .entry)) pass) format ⌝ }
 {
     let answer = depth_resolved(has_depth(format), strict(s), depth(s, pass));
     answer.channel()
 }
 
 // Its stencil channel.
-fn stencil_ops(s: &[u8], pass: u32, format: u32) -> ResolvedStencil
-    ensures { λ r. ⌜ St.opsIn r ≡ At.stencilOps (session (now (s .entry))) (session (now (s .entry)) .pass pass) format ⌝ }
+fn stencil_ops(s: &[u8], pass: PassRow, format: u32) -> ResolvedStencil
+    ensures { λ r. ⌜ St.opsIn r ≡ At.stencilOps (session (now (s .entry))) (passIn (now (s .entry)) pass) format ⌝ }
 {
     let answer = stencil_resolved(has_stencil(format), strict(s), stencil(s, pass));
     answer.channel()
@@ -136,20 +140,20 @@ fn depth_stencil_of(
         Present S r (At.depthStencil k range (hasDepth format) (hasStencil format) (De.opsIn depth) (St.opsIn stencil))) ⌝ }
 {
     let v = view(s, k);
-    let plan = depth_stencil_plan(has_depth(format), has_stencil(format), depth, stencil);
-    let kind = plan.kind;
+    let effect = depth_stencil_effect(has_depth(format), has_stencil(format), depth, stencil);
+    let kind = effect.kind;
     let usage = usage_of(s, v, depth, stencil);
     DepthStencilPart {
         present: true,
         planned: Planned {
             range: view_range(v),
             kind: kind,
-            discards: plan.discards,
+            discards: effect.discards,
         },
         reply: depth_stencil_reply(k, usage, depth, stencil),
         is_depth_read_only: depth.is_readonly(),
         is_stencil_read_only: stencil.is_readonly(),
-        divergent: plan.divergent,
+        divergent: effect.divergent,
     }
 }
 
@@ -184,10 +188,10 @@ fn no_depth_stencil() -> DepthStencilPart
 }
 
 // The depth-stencil attachment of a pass, with its channels resolved.
-pub fn depth_stencil_part(s: &[u8], pass: u32) -> DepthStencilPart
+pub fn depth_stencil_part(s: &[u8], pass: PassRow) -> DepthStencilPart
     ensures { λ r. ⌜
         (let S = session (now (s .entry)) in
-        PartOf S r (At.depthStencilPart S (S .pass pass))) ⌝ }
+        PartOf S r (At.depthStencilPart S (passIn (now (s .entry)) pass))) ⌝ }
 {
     let k = depth_stencil(s, pass);
     if is_none(k) {
@@ -207,27 +211,27 @@ pub fn depth_stencil_part(s: &[u8], pass: u32) -> DepthStencilPart
 
 // What a colour does to the lists.
 pub fn color_planned(s: &[u8], c: Slot) -> Planned
-    ensures { λ r. ⌜ PlannedAs r (At.colorOf (session (now (s .entry))) c) ⌝ }
+    ensures { λ r. ⌜ planIn r ≡ planOf (At.colorOf (session (now (s .entry))) c) ⌝ }
 {
-    let plan = color_plan(ops_of(c));
-    let kind = plan.kind;
+    let effect = color_effect(ops_of(c));
+    let kind = effect.kind;
     Planned {
         range: slice_range(view(s, c.view), c.slice),
         kind: kind,
-        discards: plan.discards,
+        discards: effect.discards,
     }
 }
 
 // What a resolve target does to the lists.
 pub fn resolve_planned(s: &[u8], target: u32) -> Planned
-    ensures { λ r. ⌜ PlannedAs r (At.resolveTo target (Se.sliceRange (session (now (s .entry)) .view target) 0)) ⌝ }
+    ensures { λ r. ⌜ planIn r ≡ planOf (At.resolveTo target (Se.sliceRange (session (now (s .entry)) .view target) 0)) ⌝ }
 {
-    let plan = resolve_plan();
-    let kind = plan.kind;
+    let effect = resolve_effect();
+    let kind = effect.kind;
     Planned {
         range: slice_range(view(s, target), 0),
         kind: kind,
-        discards: plan.discards,
+        discards: effect.discards,
     }
 }
 

@@ -12,7 +12,7 @@ use Rattle.definition.specs.declared.Surface.{Surface}
 use Rattle.definition.specs.declared.Range.{Range}
 use Rattle.session_validation.specs.Valid.{Valid}
 use Rattle.session.specs.Rows.{RowsInside}
-use Rattle.buffer_validation.specs.Right.{surfaceFits, rangeFits}
+use Rattle.buffer_validation.specs.Ranges.{surfaceFits, rangeFits}
 
 module _ (S : Session) where
   pub surface-valid : (s : Surface) {b : Bool} → ltb (s .texture) (S .textureCount) ≡ b → (b && surfaceFits (S .texture (s .texture)) s) ≡ surfaceValid S s

@@ -1,4 +1,4 @@
 -- The root of this crate's laws.
 pub mod Turns
 pub mod Fits
-pub mod Right
+pub mod Lent

@@ -1,3 +1,3 @@
 -- The root of what this crate means.
-pub mod Right
+pub mod Ranges
 pub mod Buffers

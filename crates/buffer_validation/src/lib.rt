@@ -20,12 +20,12 @@ use session::derived::TEXTURE_D3;
 use session::derived::array_layers;
 use session::derived::slices_in;
 use session::header::texture_count;
+use session::surfaces::is_part;
 use session::surfaces::surfaces_in;
 use session::texture_inside;
 ghost use mathlib.Core.Path.{_≡_};
 ghost use mathlib.Core.Bool.{true, false, _&&_};
-ghost use Prim.Native.Nat.{_+_, _-_, _≤_};
-ghost use lib.Dec.{leb};
+ghost use Prim.Native.Nat.{_-_, _≤_};
 ghost use lib.ListN.{length};
 ghost use Rattle.definition.specs.Sizes.{maxSurfaces, surfaceBytes, actionBytes, listBytes};
 ghost use Rattle.definition.specs.Session.{session, surfaceCount};
@@ -34,20 +34,10 @@ ghost use Rattle.definition.specs.Calls.{surfaceValid, rangeValid, surfacesVali
 ghost use Rattle.lists.specs.Lists.{countIn, surfacesIn, actionsIn, firstActions};
 ghost use Rattle.lists.specs.Lent.{bytes, listsIn};
 ghost use Rattle.session.specs.Rows.{RowsInside};
-ghost use Rattle.buffer_validation.specs.Right.{Textures, isFlat, surfaceFits, areaFits, rangeFits};
+ghost use Rattle.buffer_validation.specs.Ranges.{Textures, isFlat, surfaceFits, areaFits, rangeFits};
 ghost use Rattle.buffer_validation.specs.Buffers.{buffers, heldIn, tooShort};
 
 // ── a surface and a range
-
-// So many from the first on, at least one, end by the last.
-fn part_of(first: u32, count: u32, last: u32) -> bool
-    ensures { λ r. ⌜ r ≡ (leb 1 count && leb (first + count) last) ⌝ }
-{
-    if first >= last {
-        return false;
-    }
-    (1 <= count) & (count <= last - first)
-}
 
 // The texture has the surface.
 fn surface_fits(t: Texture, x: Surface) -> bool
@@ -60,10 +50,10 @@ fn surface_fits(t: Texture, x: Surface) -> bool
 fn area_fits(t: Texture, x: Range) -> bool
     ensures { λ r. ⌜ r ≡ areaFits t x ⌝ }
 {
-    if !part_of(x.mip, x.mips, t.mips) {
+    if !is_part(x.mip, x.mips, t.mips) {
         return false;
     }
-    part_of(x.layer, x.layers, array_layers(t))
+    is_part(x.layer, x.layers, array_layers(t))
 }
 
 // The texture has the range, and the range is not empty. The slice is the last mip's, which is there where the mips are the texture's.

@@ -7,6 +7,7 @@ use crate::load_kind;
 use crate::store_op;
 use definition::Color;
 use definition::Slot;
+use definition::black;
 ghost use mathlib.Core.Path.{_≡_};
 ghost use Rattle.definition.specs.Channel as Ch;
 ghost use Rattle.definition.specs.Check.{slotLoad};
@@ -48,18 +49,6 @@ impl ColorLoadOp {
             ColorLoadOp::Clear(_) => LoadKind::Clear,
             ColorLoadOp::DontCare => LoadKind::DontCare,
         }
-    }
-}
-
-// Color::default: zero in each component.
-pub fn black() -> Color
-    ensures { λ r. ⌜ r ≡ Ps.black ⌝ }
-{
-    Color {
-        red: 0.0,
-        green: 0.0,
-        blue: 0.0,
-        alpha: 0.0,
     }
 }
 

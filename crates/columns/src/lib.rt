@@ -1,5 +1,7 @@
 // Pass rows stored by columns, for a file server that wants like bytes side by side: the pass part of a session rearranged, the
 // way back, and the caller's own part that holds one column. No public function has a `requires`.
+use definition::refusals::INVALID_HEADER;
+use definition::refusals::INVALID_LENT;
 use definition::sizes::MAX_PASSES;
 use definition::sizes::PASS_BYTES;
 ghost use mathlib.Core.Path.{_≡_};
@@ -98,10 +100,10 @@ fn rearrange_number(passes: u32, bytes: usize, room: usize) -> u32
     ensures { λ r. ⌜ r ≡ C.rearrangeNumber passes bytes room ⌝ }
 {
     if !is_part(passes, bytes) {
-        return 2;
+        return INVALID_HEADER;
     }
     if room < bytes {
-        return 6;
+        return INVALID_LENT;
     }
     0
 }
@@ -151,7 +153,7 @@ pub extern "C" fn deskcheck_column(passes: u32, columns: &[u8], j: u32) -> Colum
 {
     if !has_column(passes, columns.len(), j) {
         return ColumnPlace {
-            number: 2,
+            number: INVALID_HEADER,
             first: 0,
             bytes: 0,
         };

@@ -93,7 +93,7 @@ passStep o σ = record { state = record { lists = o .lists; status = σ .status 
 abbrev pub submitStep : State → Step
 submitStep σ = record { state = σ; answer = submitted 0 (σ .status) }
 
--- Where what is lent is right.
+-- Where what is lent is valid.
 abbrev pub called : Session → Call → State → Step
 called S (pass i) σ = passStep (passCall S i (σ .lists)) σ
 called S submit σ = submitStep (submitState S σ)

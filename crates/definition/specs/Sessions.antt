@@ -302,8 +302,8 @@ past-the-last : passCall (session example) 2 noEntries .reply .verdict ≡ refus
 unfolding computing
 past-the-last = refl
 
--- 6: what is lent beside the example, whose one surface is (0, 0, 0), slice 0. One status byte of 3 is right, 4 is not; 64 discards are right, 65 and a surface of
--- mip 1 are not; a range of the one surface is right, an empty one and one of two layers are not; 80 clears are right, 81 are not; nor is
+-- 6: what is lent beside the example, whose one surface is (0, 0, 0), slice 0. One status byte of 3 is valid, 4 is not; 64 discards are valid, 65 and a surface of
+-- mip 1 are not; a range of the one surface is valid, an empty one and one of two layers are not; 80 clears are valid, 81 are not; nor is
 -- slice 1, as a surface or a range.
 abbrev lent : List Surface → List Range → List Surface → ℕ → Bool
 lent discards ranges clears byte = lentValid (session example) (record {

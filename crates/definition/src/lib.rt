@@ -1,9 +1,12 @@
 // What the desk check answers, as definitions. Everything is in specs/; here are the records that the
 // definitions and the code share, so that a contract needs no translation. Numbers are document 01's.
-// The one code here is in `verdicts`, and is proved as all code is.
+// The one code here is `black` and what is in `verdicts`, and is proved as all code is.
 pub mod refusals;
 pub mod sizes;
 pub mod verdicts;
+
+ghost use mathlib.Core.Path.{_≡_};
+ghost use Rattle.definition.specs.Pass as Ps;
 
 // A texture row. `depth` is the depth of a 3D texture, else the number of layers.
 pub struct Texture {
@@ -60,6 +63,18 @@ pub struct Color {
     pub green: f64,
     pub blue: f64,
     pub alpha: f64,
+}
+
+// Color::default: zero in each component.
+pub fn black() -> Color
+    ensures { λ r. ⌜ r ≡ Ps.black ⌝ }
+{
+    Color {
+        red: 0.0,
+        green: 0.0,
+        blue: 0.0,
+        alpha: 0.0,
+    }
 }
 
 // A colour slot of a pass row. `sliced` is 1 where the slice is given.

@@ -26,6 +26,7 @@ use depth_stencil::depth::depth_channel;
 use depth_stencil::depth::depth_resolved;
 use depth_stencil::stencil::stencil_channel;
 use depth_stencil::stencil::stencil_resolved;
+use session::PassRow;
 use session::colors;
 use session::depth_stencil;
 use session::derived::is_none;
@@ -35,11 +36,12 @@ use session::formats::has_depth;
 use session::formats::has_stencil;
 use session::formats::is_depth_stencil;
 use session::header::max_colors;
-use session::slot;
+use session::slot_without_clear;
 use session::view;
 ghost use mathlib.Core.Path.{_≡_};
 ghost use Rattle.definition.specs.Check as Ck;
 ghost use Rattle.definition.specs.Session.{session};
+ghost use Rattle.session.specs.Rows.{passIn};
 
 // 11 and 12, of slot k.
 fn slot_ops(s: &[u8], c: Slot, k: u32) -> Verdict
@@ -60,13 +62,13 @@ fn slot_ops(s: &[u8], c: Slot, k: u32) -> Verdict
 }
 
 // Of the first n slots, in order.
-fn color_ops(s: &[u8], pass: u32, n: u32) -> Verdict
-    ensures { λ r. ⌜ r ≡ Ck.colorOps (session (now (s .entry))) (session (now (s .entry)) .pass pass) n ⌝ }
+fn color_ops(s: &[u8], pass: PassRow, n: u32) -> Verdict
+    ensures { λ r. ⌜ r ≡ Ck.colorOps (session (now (s .entry))) (passIn (now (s .entry)) pass) n ⌝ }
 {
     let mut judged = accepted();
     let mut k = 0u32;
     while k < n {
-        judged = then(judged, slot_ops(s, slot(s, pass, k), k));
+        judged = then(judged, slot_ops(s, slot_without_clear(s, pass, k), k));
         k += 1;
     }
     judged
@@ -113,8 +115,8 @@ fn channel_ops(
 }
 
 // The same of a pass, where it has a depth-stencil view.
-fn depth_stencil_ops(s: &[u8], pass: u32) -> Verdict
-    ensures { λ r. ⌜ r ≡ Ck.depthStencilOps (session (now (s .entry))) (session (now (s .entry)) .pass pass) ⌝ }
+fn depth_stencil_ops(s: &[u8], pass: PassRow) -> Verdict
+    ensures { λ r. ⌜ r ≡ Ck.depthStencilOps (session (now (s .entry))) (passIn (now (s .entry)) pass) ⌝ }
 {
     let k = depth_stencil(s, pass);
     if is_none(k) {
@@ -131,8 +133,8 @@ fn depth_stencil_ops(s: &[u8], pass: u32) -> Verdict
 }
 
 // 10 to 26. A pass of more colours than there may be is not looked at further.
-pub fn fill_arc_desc(s: &[u8], pass: u32) -> Verdict
-    ensures { λ r. ⌜ r ≡ Ck.opsVerdict (session (now (s .entry))) (session (now (s .entry)) .pass pass) ⌝ }
+pub fn fill_arc_desc(s: &[u8], pass: PassRow) -> Verdict
+    ensures { λ r. ⌜ r ≡ Ck.opsVerdict (session (now (s .entry))) (passIn (now (s .entry)) pass) ⌝ }
 {
     let n = colors(s, pass);
     if n > max_colors(s) {

@@ -29,7 +29,7 @@ module _ (s : List ℕ) (k : Call) (b : Buffers) where
   unfolding entry
   entry-call h = cond-off (tooShort b) _ _ (h .long) ∙ cond-on (eqb (sessionRefusal s) 0) _ _ (eq-eqb (sessionRefusal s) 0 (h .readable))
 
-  -- The call of what is lent and right.
+  -- The call of what is lent and valid.
   pub entry-called : Opened s b → lentValid (session s) (heldIn b) ≡ true → entry s k b ≡ called (session s) k (heldIn b)
   unfolding call
   entry-called h g = entry-call h ∙ cond-on (lentValid (session s) (heldIn b)) _ _ g

@@ -5,7 +5,7 @@ use mathlib.Core.Bool.{true, false}
 use mathlib.Core.List.{List}
 use Prim.Native.Nat.{ℕ, _≤_, _<_}
 use lib.Dec.{ltb}
-use borrow.Author.Tests.{lt-ltb, le-ltb, ne-eqb}
+use borrow.Author.Tests.{lt-ltb, le-ltb}
 use Rattle.definition.specs.Session.{session}
 use Rattle.definition.specs.Readable.{sessionRefusal}
 use Rattle.definition.specs.Verdict.{nowhere, refusedAt}
@@ -15,12 +15,11 @@ use Rattle.laws.proofs.Tests.{cond-on, cond-off}
 use Rattle.laws.proofs.Readable.{tested}
 use Rattle.lists.specs.Lent.{ListBytes, listsIn}
 use Rattle.buffer_validation.specs.Buffers.{Buffers, heldIn, tooShort}
-use Rattle.buffer_validation.proofs.Right.{long-of, valid-fits}
-use Rattle.render_pass.specs.declared.PassReply.{PassReply}
+use Rattle.buffer_validation.proofs.Lent.{long-of, valid-fits}
+use Rattle.render_pass.specs.declared.Reply.{Reply}
 use Rattle.render_pass.specs.Outcome.{Checkable, Checked}
-use Rattle.desk.specs.declared.reply.Reply.{Reply}
 use Rattle.desk.specs.Entry.{entry, Opened}
-use Rattle.desk.specs.Reply.{numbered, refusedReply, answered}
+use Rattle.desk.specs.Reply.{refusedReply, answered}
 use Rattle.desk.specs.Promise.{LengthsStay, PassPromise}
 use Rattle.desk.proofs.Calls.{entry-short, entry-refused, entry-called, entry-not-lent}
 
@@ -58,23 +57,23 @@ module _ (s : List ℕ) (i : ℕ) (b : Buffers) (r : Reply) where
       e
 
   -- A pass that the session has: what its check promises of the lists.
-  pub passed-checked : (q : PassReply) (l′ : ListBytes) → Opened s b → lentValid (session s) (heldIn b) ≡ true → i < session s .passCount
-      → Checked (session s) (session s .pass i) (b .lists) q l′ → r ≡ numbered q → LengthsStay (b .lists) l′ → PassPromise s i b r (record { lists = l′; status = b .status })
+  pub passed-checked : (l′ : ListBytes) → Opened s b → lentValid (session s) (heldIn b) ≡ true → i < session s .passCount
+      → Checked (session s) (session s .pass i) (b .lists) r l′ → LengthsStay (b .lists) l′ → PassPromise s i b r (record { lists = l′; status = b .status })
   unfolding passCall
-  passed-checked q l′ o h there check e lengths =
+  passed-checked l′ o h there check lengths =
       let step : entry s (pass i) b ≡ passStep (checkPass (session s) (session s .pass i) (listsIn (b .lists))) (heldIn b) = entry-called s (pass i) b o h ∙ ap (λ p. passStep p (heldIn b)) (cond-on (ltb i (session s .passCount)) _ _ (lt-ltb i (session s .passCount) there)) in
       record {
-        reply = e ∙ ap numbered (check .reply) ∙ ap (λ (t : Step). answered (t .answer)) (sym step);
+        reply = check .reply ∙ ap (λ (t : Step). answered (t .answer)) (sym step);
         state = (λ j. record { lists = check .lists j; status = b .status }) ∙ ap (λ (t : Step). t .state) (sym step);
-        refused = λ g. ap (λ (l : ListBytes). record { lists = l; status = b .status }) (check .refused (ne-eqb (q .verdict .number) 0 (λ z. g (ap (λ (p : Reply). p .number) e ∙ z))));
+        refused = λ g. ap (λ (l : ListBytes). record { lists = l; status = b .status }) (check .refused g);
         rest = check .rest;
         lengths = lengths;
         status = refl;
       }
 
--- What is lent and right can be checked.
-pub right-checkable : (s : List ℕ) (b : Buffers) → Opened s b → lentValid (session s) (heldIn b) ≡ true → Checkable (session s) (b .lists)
-right-checkable s b o h = record {
+-- What is lent and valid can be checked.
+pub valid-checkable : (s : List ℕ) (b : Buffers) → Opened s b → lentValid (session s) (heldIn b) ≡ true → Checkable (session s) (b .lists)
+valid-checkable s b o h = record {
   views = tested s (o .readable) .views;
   long = long-of b (o .long);
   fits = valid-fits (session s) (heldIn b) h;

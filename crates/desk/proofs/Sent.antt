@@ -17,7 +17,7 @@ use Rattle.lists.specs.Lists.{surfaceOf, actionOfBytes, surfacesIn, actionsIn, 
 use Rattle.lists.proofs.Lists.{emptied}
 use Rattle.buffer_validation.specs.Buffers.{Buffers, buffers, heldIn, tooShort}
 use Rattle.buffer_validation.proofs.Fits.{rows-inside}
-use Rattle.buffer_validation.proofs.Right.{long-of, status-long, records-inside, valid-fits, valid-surfaces, valid-actions}
+use Rattle.buffer_validation.proofs.Lent.{long-of, status-long, records-inside, valid-fits, valid-surfaces, valid-actions}
 use Rattle.submission.specs.Runs.{Submits}
 use Rattle.desk.specs.Entry.{numberIn, entry, Opened}
 use Rattle.desk.specs.Promise.{SubmitPromise}
@@ -53,15 +53,15 @@ module _ (s : List ℕ) (b : Buffers) (n : ℕ) where
 
 -- ── a submission
 
--- Lists that are right.
-module _ (s d a c b : List ℕ) (opened : Opened s (buffers d a c b)) (right : lentValid (session s) (heldIn (buffers d a c b)) ≡ true) where
+-- Lists that are valid.
+module _ (s d a c b : List ℕ) (opened : Opened s (buffers d a c b)) (lendable : lentValid (session s) (heldIn (buffers d a c b)) ≡ true) where
   -- They can be submitted.
   pub sent-submits : Submits s d a b
   sent-submits =
       let S = session s in
       let lent = buffers d a c b in
       let valid = valid-of s (opened .readable) in
-      let inside = records-inside (lent .lists) (long-of lent (opened .long)) (valid-fits S (heldIn lent) right) in
+      let inside = records-inside (lent .lists) (long-of lent (opened .long)) (valid-fits S (heldIn lent) lendable) in
       let few : surfaceCount S ≤ maxSurfaces = valid .surfaces (S .textureCount) (le-refl (S .textureCount)) in
       record {
         rows = rows-inside s valid;
@@ -70,8 +70,8 @@ module _ (s d a c b : List ℕ) (opened : Opened s (buffers d a c b)) (right : l
         status = omega (arith, few, status-long lent (opened .long));
         discards-long = inside .discards;
         actions-long = inside .actions;
-        discards = valid-surfaces S (heldIn lent) right;
-        actions = valid-actions S (heldIn lent) right;
+        discards = valid-surfaces S (heldIn lent) lendable;
+        actions = valid-actions S (heldIn lent) lendable;
       }
 
   -- The counts are set to 0, and the status bytes are the submission's.
@@ -80,7 +80,7 @@ module _ (s d a c b : List ℕ) (opened : Opened s (buffers d a c b)) (right : l
   sent-all d′ a′ b′ ed ea eb nd na nb =
       let no-discards : surfacesIn d′ ≡ [] = emptied {k = surfaceBytes} {decode = surfaceOf} ed .list in
       let no-actions : actionsIn a′ ≡ [] = emptied {k = actionBytes} {decode = actionOfBytes} ea .list in
-      let step = entry-called s submit (buffers d a c b) opened right in
+      let step = entry-called s submit (buffers d a c b) opened lendable in
       record {
         number = ap (λ (q : Step). numberIn (q .answer)) (sym step);
         state = (λ q. record { lists = record { discards = no-discards q; actions = no-actions q; clears = surfacesIn c }; status = eb q })

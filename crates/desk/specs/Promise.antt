@@ -9,7 +9,7 @@ use Rattle.definition.specs.Sizes.{countBytes}
 use Rattle.definition.specs.Calls.{pass, submit}
 use Rattle.lists.specs.Lent.{ListBytes, RestsStay}
 use Rattle.buffer_validation.specs.Buffers.{Buffers, heldIn}
-use Rattle.desk.specs.declared.reply.Reply.{Reply}
+use Rattle.render_pass.specs.declared.Reply.{Reply}
 use Rattle.desk.specs.Entry.{numberIn, entry}
 use Rattle.desk.specs.Reply.{answered}
 

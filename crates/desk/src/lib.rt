@@ -2,7 +2,6 @@
 // promise (specs/Promise, specs/Whole), which says what the reply means and what the lent lists and status bytes then hold, refused or not.
 // In EntryPoints of specs/ and proofs/: demand 3 of calls of deskcheck_pass and deskcheck_submit, one after the other from fresh buffers.
 pub mod index;
-pub mod reply;
 
 use buffer_validation::is_short;
 use buffer_validation::lent_valid;
@@ -11,14 +10,16 @@ use definition::Surface;
 use definition::refusals::INVALID_LENT;
 use definition::refusals::INVALID_PASS;
 use definition::sizes::ROWS_BYTES;
+use definition::verdicts::NOWHERE;
+use definition::verdicts::refused_at;
 use index::SurfaceIndex;
 use index::index_of;
 use lists::set_count;
+use render_pass::Reply;
 use render_pass::check_pass;
-use reply::Reply;
-use reply::numbered;
-use reply::refused_reply;
+use render_pass::refusal;
 use session::header::pass_count;
+use session::pass_row;
 use session_validation::session_refusal;
 use submission::submit;
 use whole_session::session_rows;
@@ -27,6 +28,7 @@ ghost use Rattle.definition.specs.Readable.{sessionRefusal};
 ghost use Rattle.definition.specs.Surfaces.{surfaceAt};
 ghost use Rattle.buffer_validation.specs.Buffers.{buffers};
 ghost use Rattle.desk.specs.Entry.{Opened};
+ghost use Rattle.desk.specs.Reply.{refusedReply};
 ghost use Rattle.desk.specs.Promise.{PassPromise, SubmitPromise};
 ghost use Rattle.desk.specs.Whole.{WholePromise};
 ghost use Rattle.desk.specs.Index.{statusIndex};
@@ -50,12 +52,9 @@ pub extern "C" fn deskcheck_surface_index(
 ) -> SurfaceIndex
     ensures { λ r. ⌜ r ≡ statusIndex (now (session .entry)) (surfaceAt texture mip layer slice) ⌝ }
 {
-    let refusal = session_refusal(session);
-    if refusal != 0 {
-        return SurfaceIndex {
-            number: refusal,
-            index: 0,
-        };
+    let number = session_refusal(session);
+    if number != 0 {
+        return SurfaceIndex { number, index: 0 };
     }
     let x = Surface {
         texture,
@@ -118,11 +117,18 @@ pub extern "C" fn deskcheck_submit(
     if is_short(discards, actions, clears, status) {
         return INVALID_LENT;
     }
-    let refusal = session_refusal(session);
-    if refusal != 0 {
-        return refusal;
+    let number = session_refusal(session);
+    if number != 0 {
+        return number;
     }
     submit_lent(session, discards, actions, clears, status)
+}
+
+// Refused as n, at no place.
+fn refused(n: u32) -> Reply
+    ensures { λ r. ⌜ r ≡ refusedReply n ⌝ }
+{
+    refusal(refused_at(n, NOWHERE))
 }
 
 // A pass check, where the buffers are long enough and the session is readable.
@@ -142,12 +148,12 @@ fn pass_lent(
         (buffers (now (discards .exit)) (now (actions .exit)) (now (clears .exit)) (now (status .entry))) ⌝ }
 {
     if !lent_valid(session, discards, actions, clears, status) {
-        return refused_reply(INVALID_LENT);
+        return refused(INVALID_LENT);
     }
     if i >= pass_count(session) {
-        return refused_reply(INVALID_PASS);
+        return refused(INVALID_PASS);
     }
-    numbered(check_pass(session, i, discards, actions, clears))
+    check_pass(session, pass_row(session, i), discards, actions, clears)
 }
 
 // The check of pass number i: 6 for a buffer that is too short, 1 to 4 for the session, 6 for what is lent, 5 and 10 to 51 for the pass.
@@ -168,11 +174,11 @@ pub extern "C" fn deskcheck_pass(
         (buffers (now (discards .exit)) (now (actions .exit)) (now (clears .exit)) (now (status .entry))) ⌝ }
 {
     if is_short(discards, actions, clears, status) {
-        return refused_reply(INVALID_LENT);
+        return refused(INVALID_LENT);
     }
-    let refusal = session_refusal(session);
-    if refusal != 0 {
-        return refused_reply(refusal);
+    let number = session_refusal(session);
+    if number != 0 {
+        return refused(number);
     }
     pass_lent(session, i, discards, actions, clears, status)
 }
@@ -186,9 +192,9 @@ pub extern "C" fn deskcheck_session(session: &[u8], rows: &mut [u8]) -> u32
     if rows.len() < ROWS_BYTES {
         return INVALID_LENT;
     }
-    let refusal = session_refusal(session);
-    if refusal != 0 {
-        return refusal;
+    let number = session_refusal(session);
+    if number != 0 {
+        return number;
     }
     session_rows(session, rows);
     0

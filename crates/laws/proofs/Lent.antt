@@ -1,4 +1,4 @@
--- Laws of number 6 of records: a list is right where its parts are, and a surface of the session is a range of it.
+-- Laws of number 6 of records: a list is valid where its parts are, and a surface of the session is a range of it.
 use mathlib.Core.Path.{_≡_, refl, sym, ap, subst, _∙_}
 use mathlib.Core.Bool.{Bool, true, false, _&&_, cond, and-assoc}
 use mathlib.Core.List.{List, [], _∷_, _++_, map}
@@ -36,8 +36,8 @@ module _ (S : Session) where
       go false ih = ih
 
   -- A surface of the session as a range, and a range's first surface.
-  pub only-right : (s : Surface) → surfaceValid S s ≡ true → rangeValid S (onlyRange s) ≡ true
-  only-right s h =
+  pub only-valid : (s : Surface) → surfaceValid S s ≡ true → rangeValid S (onlyRange s) ≡ true
+  only-valid s h =
       let i : Inside S s = surface-inside S s h in
       inside-range S (onlyRange s) (record {
         texture = i .texture;
@@ -48,12 +48,12 @@ module _ (S : Session) where
         slice = subst (λ m. s .slice < slicesIn (S .texture (s .texture)) m) (let e : s .mip ≡ s .mip + 1 - 1 = omega arith in e) (i .slice);
       })
 
-  pub first-right : (r : Range) → rangeValid S r ≡ true → surfaceValid S (firstOf r) ≡ true
-  first-right r h = inside-surface S (firstOf r) (range-first S r (range-inside S r h))
+  pub first-valid : (r : Range) → rangeValid S r ≡ true → surfaceValid S (firstOf r) ≡ true
+  first-valid r h = inside-surface S (firstOf r) (range-first S r (range-inside S r h))
 
   -- The implicit actions of clears.
-  pub implicits-right : (d : List Surface) → surfacesValid S d ≡ true → actionsValid S (map implicitAt d) ≡ true
-  implicits-right [] h = refl
-  implicits-right (s ∷ d) h =
-      and-on (rangeValid S (onlyRange s)) _ (only-right s (and-left (surfaceValid S s) (surfacesValid S d) h))
-      (implicits-right d (and-right (surfaceValid S s) (surfacesValid S d) h))
+  pub implicits-valid : (d : List Surface) → surfacesValid S d ≡ true → actionsValid S (map implicitAt d) ≡ true
+  implicits-valid [] h = refl
+  implicits-valid (s ∷ d) h =
+      and-on (rangeValid S (onlyRange s)) _ (only-valid s (and-left (surfaceValid S s) (surfacesValid S d) h))
+      (implicits-valid d (and-right (surfaceValid S s) (surfacesValid S d) h))

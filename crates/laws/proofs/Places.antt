@@ -155,11 +155,11 @@ module _ (S : Session) where
   pub place-within : (s : Surface) → Inside S s → surfaceIndex S s < length (surfacesOf S)
   place-within s h = omega (arith, place-counted s h, surfaces-counted)
 
-  pub place-right : (s o : Surface) → Inside S s → getD (surfacesOf S) (surfaceIndex S s) o ≡ s
-  place-right s o h = at-place s o h .1
+  pub place-holds : (s o : Surface) → Inside S s → getD (surfacesOf S) (surfaceIndex S s) o ≡ s
+  place-holds s o h = at-place s o h .1
 
   pub place-only : (s t : Surface) → Inside S s → Inside S t → surfaceIndex S s ≡ surfaceIndex S t → s ≡ t
-  place-only s t h g e = sym (place-right s s h) ∙ ap (λ i. getD (surfacesOf S) i s) e ∙ place-right t s g
+  place-only s t h g e = sym (place-holds s s h) ∙ ap (λ i. getD (surfacesOf S) i s) e ∙ place-holds t s g
 
 -- ── from the index to the surface
 
@@ -250,5 +250,5 @@ pub place-of : (S : Session) (i : ℕ) (o : Surface) → i < surfaceCount S → 
 place-of S i o h =
     let r : Indexed S (S .textureCount) i = indexed-of S (S .textureCount) i h in
     let ok : Inside S (r .surface) = record { texture = r .texture; mip = r .mip; layer = r .layer; slice = r .slice } in
-    let e : getD (surfacesOf S) i o ≡ r .surface = ap (λ j. getD (surfacesOf S) j o) (r .index) ∙ place-right S (r .surface) o ok in
+    let e : getD (surfacesOf S) i o ≡ r .surface = ap (λ j. getD (surfacesOf S) j o) (r .index) ∙ place-holds S (r .surface) o ok in
     record { inside = subst (Inside S) (sym e) ok; index = ap (surfaceIndex S) e ∙ sym (r .index) }

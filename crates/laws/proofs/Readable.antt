@@ -37,8 +37,8 @@ pub within : (low high n : ℕ) → between low high n ≡ true → (low ≤ n) 
 unfolding between
 within low high n e = (leb-true low n (and-left (leb low n) (leb n high) e), leb-true n high (and-right (leb low n) (leb n high) e))
 
--- What a right header says of the settings and of the rows' ends.
-pub record RightHeader (s : List ℕ) : Type 0 where
+-- What a valid header says of the settings and of the rows' ends.
+pub record ValidHeader (s : List ℕ) : Type 0 where
   pub textures : textureCount s ≤ maxTextures
   pub views : viewCount s ≤ maxViews
   pub passes : passCount s ≤ maxPasses
@@ -48,7 +48,7 @@ pub record RightHeader (s : List ℕ) : Type 0 where
   pub colorBytes : (1 ≤ colorBytes s) × (colorBytes s ≤ maxColorBytes)
   pub end : passEnd s ≡ totalLength s
 
-pub valid-header : (s : List ℕ) → headerValid s ≡ true → RightHeader s
+pub valid-header : (s : List ℕ) → headerValid s ≡ true → ValidHeader s
 unfolding headerValid
 valid-header s e =
     let test = each tests e in

@@ -24,7 +24,7 @@ use Rattle.laws.specs.Submission.{sweep, actAt, emptyAt, sweepActs}
 use Rattle.laws.proofs.Tests.{clash, by-order, and-right, and-on, or-off-left, or-off-right}
 use Rattle.laws.proofs.Surfaces.{same-refl, same-ne, hits-only, elem-append}
 use Rattle.laws.proofs.Status.{filled-restart, cleared-restart, cleared-empty, act-filled, empty-twice, act-most, empty-most, restart-most}
-use Rattle.laws.proofs.Places.{surfaces-counted, place-counted, place-within, place-right, place-only, Placed, place-of}
+use Rattle.laws.proofs.Places.{surfaces-counted, place-counted, place-within, place-holds, place-only, Placed, place-of}
 
 -- ── one byte through actions
 
@@ -235,22 +235,22 @@ pub submitted-byte : (S : Session) (a : List Action) (d : List Surface) (bs : Li
 submitted-byte S a d bs room s ok =
     ap (λ l. getD l (surfaceIndex S s) 0) (submit-sweep a d (surfacesOf S) bs)
     ∙ sweep-byte (byteAfter a d) (surfacesOf S) bs (surfaceIndex S s) s (place-within S s ok) room
-    ∙ ap (λ o. byteAfter a d o (getD bs (surfaceIndex S s) 0)) (place-right S s s ok)
+    ∙ ap (λ o. byteAfter a d o (getD bs (surfaceIndex S s) 0)) (place-holds S s s ok)
 
 -- ── number 6 of status bytes
 
-pub submit-right : (a : List Action) (d ss : List Surface) (bs : List ℕ) → bytesValid (length ss) bs ≡ true → bytesValid (length ss) (submitBytes a d ss bs) ≡ true
-submit-right a d [] bs h = refl
-submit-right a d (s ∷ ss) [] h = h
-submit-right a d (s ∷ ss) (b ∷ bs) h =
-    and-on (leb (byteAfter a d s b) 3) _ (le-leb (byteAfter a d s b) 3 (after-most a d s b)) (submit-right a d ss bs (and-right (leb b 3) (bytesValid (length ss) bs) h))
+pub submit-valid : (a : List Action) (d ss : List Surface) (bs : List ℕ) → bytesValid (length ss) bs ≡ true → bytesValid (length ss) (submitBytes a d ss bs) ≡ true
+submit-valid a d [] bs h = refl
+submit-valid a d (s ∷ ss) [] h = h
+submit-valid a d (s ∷ ss) (b ∷ bs) h =
+    and-on (leb (byteAfter a d s b) 3) _ (le-leb (byteAfter a d s b) 3 (after-most a d s b)) (submit-valid a d ss bs (and-right (leb b 3) (bytesValid (length ss) bs) h))
 
 pub bytes-long : (n : ℕ) (bs : List ℕ) → bytesValid n bs ≡ true → n ≤ length bs
 bytes-long zero bs h = omega arith
 bytes-long (suc n) [] h = clash {b = false} h refl
 bytes-long (suc n) (b ∷ bs) h = omega (arith, bytes-long n bs (and-right (leb b 3) (bytesValid n bs) h))
 
--- Fresh bytes are right.
+-- Fresh bytes are valid.
 pub bytes-fresh : (n m : ℕ) → n ≤ m → bytesValid n (replicate m 0) ≡ true
 bytes-fresh zero m h = refl
 bytes-fresh (suc n) zero h = absurd (omega arith)

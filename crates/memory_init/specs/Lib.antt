@@ -2,4 +2,3 @@
 pub mod Plans
 pub mod Tally
 pub mod Recording
-pub mod Slices

@@ -1,12 +1,12 @@
 // What a pass finds in the lists: counted on the discards as they are found, before anything is written.
 use crate::InitKind;
 use crate::Plans;
-use crate::hits;
 use definition::MemoryInitKind;
 use definition::Range;
 use definition::sizes::MAX_DISCARDS;
 use lists::count;
 use lists::surface_at;
+use ranges::hits;
 ghost use mathlib.Core.Path.{_≡_};
 ghost use mathlib.Core.Bool.{cond};
 ghost use mathlib.Core.Option.{some};

@@ -22,10 +22,10 @@ zero-byte (suc n) zero = refl
 zero-byte (suc n) (suc i) = zero-byte n i
 
 -- Number 6 looks at the first n bytes alone.
-taken-right : (n : ℕ) (bs : List ℕ) → bytesValid n (take n bs) ≡ bytesValid n bs
-taken-right zero bs = refl
-taken-right (suc n) [] = refl
-taken-right (suc n) (b ∷ bs) = rw (taken-right n bs)
+taken-valid : (n : ℕ) (bs : List ℕ) → bytesValid n (take n bs) ≡ bytesValid n bs
+taken-valid zero bs = refl
+taken-valid (suc n) [] = refl
+taken-valid (suc n) (b ∷ bs) = rw (taken-valid n bs)
 
 -- The first n of at least n zeros.
 take-zeros : (n m : ℕ) → n ≤ m → _≡_ {A = List ℕ} (take n (replicate m 0)) (replicate n 0)
@@ -41,15 +41,15 @@ module _ (S : Session) where
         ∙ ap (λ l. getD l (surfaceIndex S s) 0) (h .status)
         ∙ zero-byte (surfaceCount S) (surfaceIndex S s)
 
-    pub fresh-right : bytesValid (length (surfacesOf S)) (σ .status) ≡ true
-    fresh-right =
+    pub fresh-valid : bytesValid (length (surfacesOf S)) (σ .status) ≡ true
+    fresh-valid =
         ap (λ n. bytesValid n (σ .status)) (surfaces-counted S)
-        ∙ sym (taken-right (surfaceCount S) (σ .status))
+        ∙ sym (taken-valid (surfaceCount S) (σ .status))
         ∙ ap (bytesValid (surfaceCount S)) (h .status)
         ∙ bytes-fresh (surfaceCount S) (surfaceCount S) (omega arith)
 
     pub fresh-long : length (surfacesOf S) ≤ length (σ .status)
-    fresh-long = bytes-long (length (surfacesOf S)) (σ .status) fresh-right
+    fresh-long = bytes-long (length (surfacesOf S)) (σ .status) fresh-valid
 
   pub fresh-is : surfaceCount S ≤ maxSurfaces → Fresh S fresh
   fresh-is room = record { lists = refl; status = take-zeros (surfaceCount S) maxSurfaces room }

@@ -27,90 +27,90 @@ use Rattle.laws.proofs.Tests.{and-on}
 use Rattle.laws.proofs.Surfaces.{inside-range}
 use Rattle.laws.proofs.Verdicts.{then-left, then-right, unless-on}
 use Rattle.laws.proofs.Places.{surfaces-counted}
-use Rattle.laws.proofs.Submission.{submit-right, bytes-long}
+use Rattle.laws.proofs.Submission.{submit-valid, bytes-long}
 use Rattle.laws.proofs.Plans.{clears-most, discards-fit}
-use Rattle.laws.proofs.Lent.{surfaces-append, actions-append, surfaces-retain, first-right, implicits-right}
+use Rattle.laws.proofs.Lent.{surfaces-append, actions-append, surfaces-retain, first-valid, implicits-valid}
 use Rattle.noninterference.specs.Claim.{Fresh}
 use Rattle.noninterference.specs.Theorem.{lineOf, endState, printed}
 use Rattle.noninterference.proofs.Passes.{All, all-map}
-use Rattle.noninterference.proofs.Fresh.{fresh-right}
+use Rattle.noninterference.proofs.Fresh.{fresh-valid}
 use Rattle.noninterference.proofs.Accepted.{Ranged, accepted-okay, pass-separate}
 
 -- ── records in range
 
 module _ (S : Session) where
-  -- Lists whose records are right.
-  record Right (l : Lists) : Type 0 where
+  -- Lists whose records are valid.
+  record Valid (l : Lists) : Type 0 where
     discards : surfacesValid S (l .discards) ≡ true
     actions : actionsValid S (l .actions) ≡ true
     clears : surfacesValid S (l .clears) ≡ true
 
-  registered-right : (r : Range) (k : Option MemoryInitKind) (l : Lists) → rangeValid S r ≡ true → Right l → Right (registered r k l)
+  registered-valid : (r : Range) (k : Option MemoryInitKind) (l : Lists) → rangeValid S r ≡ true → Valid l → Valid (registered r k l)
   unfolding registerInitAction
-  registered-right r none l g h = h
-  registered-right r (some NeedsInitializedMemory) l g h = record {
+  registered-valid r none l g h = h
+  registered-valid r (some NeedsInitializedMemory) l g h = record {
     discards = surfaces-retain S (λ s. not (hits r s)) (l .discards) (h .discards);
     actions = actions-append S (l .actions) _
         ∙ and-on (actionsValid S (l .actions)) _ (h .actions)
-        (and-on (rangeValid S r) _ g (implicits-right S (matching r (l .discards)) (surfaces-retain S (hits r) (l .discards) (h .discards))));
+        (and-on (rangeValid S r) _ g (implicits-valid S (matching r (l .discards)) (surfaces-retain S (hits r) (l .discards) (h .discards))));
     clears = surfaces-append S (l .clears) (matching r (l .discards))
         ∙ and-on (surfacesValid S (l .clears)) _ (h .clears) (surfaces-retain S (hits r) (l .discards) (h .discards));
   }
-  registered-right r (some ImplicitlyInitialized) l g h = record {
+  registered-valid r (some ImplicitlyInitialized) l g h = record {
     discards = surfaces-retain S (λ s. not (hits r s)) (l .discards) (h .discards);
     actions = actions-append S (l .actions) _ ∙ and-on (actionsValid S (l .actions)) _ (h .actions) (and-on (rangeValid S r) true g refl);
     clears = h .clears;
   }
 
-  discarded-right : (r : Range) (b : Bool) (l : Lists) → rangeValid S r ≡ true → Right l → Right (discarded r b l)
-  discarded-right r true l g h = record {
+  discarded-valid : (r : Range) (b : Bool) (l : Lists) → rangeValid S r ≡ true → Valid l → Valid (discarded r b l)
+  discarded-valid r true l g h = record {
     discards = surfaces-append S (l .discards) (named r)
-        ∙ and-on (surfacesValid S (l .discards)) _ (h .discards) (and-on (surfaceValid S (firstOf r)) true (first-right S r g) refl);
+        ∙ and-on (surfacesValid S (l .discards)) _ (h .discards) (and-on (surfaceValid S (firstOf r)) true (first-valid S r g) refl);
     actions = h .actions;
     clears = h .clears;
   }
-  discarded-right r false l g h = h
+  discarded-valid r false l g h = h
 
-  attach-right : (x : Attached) (l : Lists) → rangeValid S (rangeIn x) ≡ true → Right l → Right (attach x l)
-  attach-right x l g h = discarded-right (rangeIn x) (discards x) (registered (rangeIn x) (kindOf x) l) g (registered-right (rangeIn x) (kindOf x) l g h)
+  attach-valid : (x : Attached) (l : Lists) → rangeValid S (rangeIn x) ≡ true → Valid l → Valid (attach x l)
+  attach-valid x l g h = discarded-valid (rangeIn x) (discards x) (registered (rangeIn x) (kindOf x) l) g (registered-valid (rangeIn x) (kindOf x) l g h)
 
 -- ── the ranges of an accepted pass are the session's
 
-abbrev RangeRight : Session → Attached → Type 0
-RangeRight S x = rangeValid S (rangeIn x) ≡ true
+abbrev RangeValid : Session → Attached → Type 0
+RangeValid S x = rangeValid S (rangeIn x) ≡ true
 
-all-right : (S : Session) (xs : List Attached) (l : Lists) → All (RangeRight S) xs → Right S l → Right S (attachAll xs l)
-all-right S [] l a h = h
-all-right S (x ∷ xs) l a h = all-right S xs (attach x l) (a .1) (attach-right S x l (a .0) h)
+all-valid : (S : Session) (xs : List Attached) (l : Lists) → All (RangeValid S) xs → Valid S l → Valid S (attachAll xs l)
+all-valid S [] l a h = h
+all-valid S (x ∷ xs) l a h = all-valid S xs (attach x l) (a .1) (attach-valid S x l (a .0) h)
 
-pass-right : (S : Session) → viewsValid S ≡ true → (p : Pass) → isAccepted (check S p .verdict) ≡ true → All (RangeRight S) (attachments S p)
-pass-right S vs p h = all-map (Ranged S) (RangeRight S) (λ x k. inside-range S (rangeIn x) (k .range)) (attachments S p) (accepted-okay S vs p h .ranged)
+pass-ranges : (S : Session) → viewsValid S ≡ true → (p : Pass) → isAccepted (check S p .verdict) ≡ true → All (RangeValid S) (attachments S p)
+pass-ranges S vs p h = all-map (Ranged S) (RangeValid S) (λ x k. inside-range S (rangeIn x) (k .range)) (attachments S p) (accepted-okay S vs p h .ranged)
 
 -- ── what can be lent
 
 module _ (S : Session) (vs : viewsValid S ≡ true) where
   record Lendable (σ : State) : Type 0 where
-    right : Right S (σ .lists)
+    valid : Valid S (σ .lists)
     discards : length (σ .lists .discards) ≤ maxDiscards
     actions : length (σ .lists .actions) ≤ maxActions
     clears : length (σ .lists .clears) ≤ maxClears
     status : bytesValid (length (surfacesOf S)) (σ .status) ≡ true
 
-  lendable-right : (σ : State) → Lendable σ → lentValid S σ ≡ true
+  lendable-valid : (σ : State) → Lendable σ → lentValid S σ ≡ true
   unfolding lentValid countsValid
-  lendable-right σ h = simp (
+  lendable-valid σ h = simp (
     le-leb (length (σ .lists .discards)) maxDiscards (h .discards),
     le-leb (length (σ .lists .actions)) maxActions (h .actions),
     le-leb (length (σ .lists .clears)) maxClears (h .clears),
-    h .right .discards,
-    h .right .actions,
-    h .right .clears,
+    h .valid .discards,
+    h .valid .actions,
+    h .valid .clears,
     ap (λ n. bytesValid n (σ .status)) (sym (surfaces-counted S)) ∙ h .status,
   )
 
   empty-lendable : (bytes : List ℕ) → bytesValid (length (surfacesOf S)) bytes ≡ true → Lendable (record { lists = noEntries; status = bytes })
   empty-lendable bytes h = record {
-    right = record { discards = refl; actions = refl; clears = refl };
+    valid = record { discards = refl; actions = refl; clears = refl };
     discards = omega arith;
     actions = omega arith;
     clears = omega arith;
@@ -119,15 +119,15 @@ module _ (S : Session) (vs : viewsValid S ≡ true) where
 
   fresh-lendable : (σ : State) → Fresh S σ → Lendable σ
   fresh-lendable σ h =
-      subst (λ (l : Lists). Lendable (record { lists = l; status = σ .status })) (sym (h .lists)) (empty-lendable (σ .status) (fresh-right S σ h))
+      subst (λ (l : Lists). Lendable (record { lists = l; status = σ .status })) (sym (h .lists)) (empty-lendable (σ .status) (fresh-valid S σ h))
 
   submit-lendable : (σ : State) → Lendable σ → Lendable (submitState S σ)
   submit-lendable σ h = record {
-    right = record { discards = refl; actions = refl; clears = h .right .clears };
+    valid = record { discards = refl; actions = refl; clears = h .valid .clears };
     discards = omega arith;
     actions = omega arith;
     clears = h .clears;
-    status = submit-right (σ .lists .actions) (σ .lists .discards) (surfacesOf S) (σ .status) (h .status);
+    status = submit-valid (σ .lists .actions) (σ .lists .discards) (surfacesOf S) (σ .status) (h .status);
   }
 
   pass-lendable : (p : Pass) (σ : State) → Lendable σ → Lendable (passStep (checkPass S p (σ .lists)) σ .state)
@@ -145,7 +145,7 @@ module _ (S : Session) (vs : viewsValid S ≡ true) where
           let judged : isAccepted (check S p .verdict) ≡ true = then-left (check S p .verdict) (roomVerdict xs l) e in
           let rm : isAccepted (roomVerdict xs l) ≡ true = then-right (check S p .verdict) (roomVerdict xs l) e in
           record {
-            right = all-right S xs l (pass-right S vs p judged) (record { discards = h .right .discards; actions = h .right .actions; clears = refl });
+            valid = all-valid S xs l (pass-ranges S vs p judged) (record { discards = h .valid .discards; actions = h .valid .actions; clears = refl });
             discards = discards-fit xs l (unless-on (discardsFit xs l) 49 nowhere refl (then-left (unless (discardsFit xs l) 49 nowhere) (unless (actionsFit xs l) 50 nowhere) rm)) (h .discards);
             actions = leb-true (length (attachAll xs l .actions)) maxActions (unless-on (actionsFit xs l) 50 nowhere refl (then-right (unless (discardsFit xs l) 49 nowhere) (unless (actionsFit xs l) 50 nowhere) rm));
             clears = omega (arith, clears-most xs l (pass-separate S vs p judged), h .discards);
@@ -155,7 +155,7 @@ module _ (S : Session) (vs : viewsValid S ≡ true) where
       go : (b : Bool) → isAccepted (passVerdict (check S p) xs (σ .lists)) ≡ b
           → Lendable (passStep (cond b (acceptedPass S (check S p .seen) xs (σ .lists)) (refusedPass (passVerdict (check S p) xs (σ .lists)) (σ .lists))) σ .state)
       go true e = fits e
-      go false e = record { right = h .right; discards = h .discards; actions = h .actions; clears = h .clears; status = h .status }
+      go false e = record { valid = h .valid; discards = h .discards; actions = h .actions; clears = h .clears; status = h .status }
 
   called-lendable : (c : Call) (σ : State) → Lendable σ → Lendable (called S c σ .state)
   unfolding passCall
@@ -163,18 +163,18 @@ module _ (S : Session) (vs : viewsValid S ≡ true) where
     where
       go : (b : Bool) → Lendable (passStep (cond b (checkPass S (S .pass i) (σ .lists)) (refusedPass (refusedAt 5 nowhere) (σ .lists))) σ .state)
       go true = pass-lendable (S .pass i) σ h
-      go false = record { right = h .right; discards = h .discards; actions = h .actions; clears = h .clears; status = h .status }
+      go false = record { valid = h .valid; discards = h .discards; actions = h .actions; clears = h .clears; status = h .status }
   called-lendable submit σ h = submit-lendable σ h
 
   -- ── the calls
 
-  -- A call that is lent what is right is not refused as 6.
+  -- A call that is lent what is valid is not refused as 6.
   pub call-called : (c : Call) (σ : State) → lentValid S σ ≡ true → call S c σ ≡ called S c σ
   unfolding call
   call-called c σ h = rw (h, call)
 
   call-lendable : (c : Call) (σ : State) → Lendable σ → Lendable (call S c σ .state)
-  call-lendable c σ h = subst (λ t. Lendable (t .state)) (sym (call-called c σ (lendable-right σ h))) (called-lendable c σ h)
+  call-lendable c σ h = subst (λ t. Lendable (t .state)) (sym (call-called c σ (lendable-valid σ h))) (called-lendable c σ h)
 
   after-lendable : (cs : List Call) (σ : State) → Lendable σ → Lendable (after S cs σ)
   after-lendable [] σ h = h
@@ -183,7 +183,7 @@ module _ (S : Session) (vs : viewsValid S ≡ true) where
   -- From a fresh state.
   module _ (σ : State) (h : Fresh S σ) where
     pub never-six : (cs : List Call) → lentValid S (after S cs σ) ≡ true
-    never-six cs = lendable-right (after S cs σ) (after-lendable cs σ (fresh-lendable σ h))
+    never-six cs = lendable-valid (after S cs σ) (after-lendable cs σ (fresh-lendable σ h))
 
     -- There is a status byte for each surface.
     pub bytes-left : (cs : List Call) → length (surfacesOf S) ≤ length (after S cs σ .status)
@@ -200,13 +200,13 @@ module _ (S : Session) (vs : viewsValid S ≡ true) where
   end-lendable false σ h = h
 
   end-lists : (b : Bool) (σ : State) → Lendable σ → endState S b σ .lists ≡ cond b (submitLists (σ .lists)) (σ .lists)
-  end-lists true σ h = ap (λ t. t .state .lists) (call-called submit σ (lendable-right σ h))
+  end-lists true σ h = ap (λ t. t .state .lists) (call-called submit σ (lendable-valid σ h))
   end-lists false σ h = refl
 
   -- The check of a pass of the session.
   pass-called : (k : ℕ) (σ : State) → k < S .passCount → Lendable σ → call S (pass k) σ ≡ passStep (checkPass S (S .pass k) (σ .lists)) σ
   unfolding passCall
-  pass-called k σ g h = call-called (pass k) σ (lendable-right σ h) ∙ rw (lt-ltb k (S .passCount) g)
+  pass-called k σ g h = call-called (pass k) σ (lendable-valid σ h) ∙ rw (lt-ltb k (S .passCount) g)
 
   lines-printed : (n k : ℕ) (σ : State) → k + n ≡ S .passCount → Lendable σ → printed S k n σ ≡ lines S k n (σ .lists)
   lines-printed zero k σ e h = refl

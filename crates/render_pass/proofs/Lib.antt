@@ -1,3 +1,3 @@
 pub mod Outcome
 pub mod Checked
-pub mod Summed
+pub mod Summarized

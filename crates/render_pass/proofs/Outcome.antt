@@ -26,8 +26,6 @@ use Rattle.session_validation.proofs.Valid.{valid-pass}
 use Rattle.lists.specs.Lent.{Fits}
 use Rattle.memory_init.specs.declared.tally.Tally.{Tally}
 use Rattle.memory_init.specs.Tally.{TallyOf}
-use Rattle.attachments.specs.Resolved.{Resolved}
-use Rattle.attachments.specs.declared.resolve.Resolution.{Resolution}
 use Rattle.render_pass.specs.Outcome.{roomBy}
 
 -- ── the attachments
@@ -42,9 +40,9 @@ few-colors S p h = go (passValid S p) refl
     go false e = let no : isAccepted (check S p .verdict) ≡ false = simp e in clash h no
 
 -- The depth-stencil part and the slots are the pass's attachments.
-pub resolved-pass : (S : Session) (p : Pass) (r : Resolution) (n : ℕ) → n ≡ p .colors → Resolved S (depthStencilPart S p ++ slotParts S p n) r → Resolved S (attachments S p) r
+pub all-attached : (S : Session) (p : Pass) (n : ℕ) → n ≡ p .colors → depthStencilPart S p ++ slotParts S p n ≡ attachments S p
 unfolding attachments
-resolved-pass S p r n e h = subst (λ (q : ℕ). Resolved S (depthStencilPart S p ++ slotParts S p q) r) e h
+all-attached S p n e = ap (λ (q : ℕ). depthStencilPart S p ++ slotParts S p q) e
 
 -- ── 49 and 50
 

@@ -1,3 +1,3 @@
 -- The root of what this crate means beyond the definition.
 pub mod Outcome
-pub mod Summing
+pub mod Summary

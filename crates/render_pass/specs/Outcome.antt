@@ -1,38 +1,38 @@
 -- What the structs of a pass check stand for in the definition, and what the check asks and promises.
-use Prim.Native.Nat.{ℕ, _+_, _≤_}
+use Prim.Native.Nat.{ℕ, _+_}
 use mathlib.Core.Path.{_≡_}
-use mathlib.Core.Bool.{true, false}
+use mathlib.Core.Logic.{_≢_}
+use mathlib.Core.Bool.{true, cond}
 use lib.Dec.{leb}
 use lib.ListN.{length}
-use Rattle.definition.specs.Sizes.{maxActions, maxClears, maxAttachments}
+use Rattle.definition.specs.Sizes.{maxActions, maxAttachments}
 use Rattle.definition.specs.Session.{Pass, Session}
 use Rattle.definition.specs.Readable.{viewsValid}
-use Rattle.definition.specs.Verdict.{nowhere, isAccepted, _then_, unless}
-use Rattle.definition.specs.Pass.{Reply, checkPass}
+use Rattle.definition.specs.Verdict.{nowhere, _then_, unless}
+use Rattle.definition.specs.Pass as Def
+use Rattle.definition.specs.Pass.{checkPass}
 use Rattle.definition.specs.declared.Verdict.{Verdict}
 use Rattle.lists.specs.Lent.{ListBytes, listsIn, Long, Fits, RestsStay}
 use Rattle.memory_init.specs.declared.tally.Tally.{Tally}
-use Rattle.attachments.specs.Resolved.{listed}
-use Rattle.render_pass.specs.declared.PassReply.{PassReply}
+use Rattle.attachments.specs.Resolved.{padded}
+use Rattle.render_pass.specs.declared.Reply.{Reply}
 
--- A reply of the definition as the struct that is handed back: its attachments in seventeen records, and how many clears it returns.
-abbrev pub replied : Reply → PassReply
+-- A reply of the definition in numbers: flags are 1 or 0, the attachments stand in seventeen records, and the clears are counted.
+abbrev pub replied : Def.Reply → Reply
 replied r = record {
-  verdict = r .verdict;
+  number = r .verdict .number;
+  place = r .verdict .place;
+  earlier = r .verdict .earlier;
   width = r .width;
   height = r .height;
   samples = r .samples;
-  «is_depth_read_only» = r .depthReadOnly;
-  «is_stencil_read_only» = r .stencilReadOnly;
+  «depth_read_only» = cond (r .depthReadOnly) 1 0;
+  «stencil_read_only» = cond (r .stencilReadOnly) 1 0;
   divergent = r .divergent;
-  attachments = listed (r .attachments);
   clears = length (r .clears);
+  count = length (r .attachments);
+  attachments = padded maxAttachments (r .attachments);
 }
-
--- Every attachment has a record, and the clears fit their list.
-pub record Whole (r : PassReply) : Type 0 where
-  pub attachments : r .attachments .count ≤ maxAttachments
-  pub clears : r .clears ≤ maxClears
 
 -- 49 and 50, by what a pass finds in the lists and how many actions there are.
 unfoldable pub roomBy : Tally → ℕ → Verdict
@@ -45,11 +45,10 @@ pub record Checkable (S : Session) (b : ListBytes) : Type 0 where
   pub fits : Fits (listsIn b)
 
 -- What it promises: the reply and the lists are the definition's, refused or not.
-pub record Checked (S : Session) (p : Pass) (b : ListBytes) (r : PassReply) (b′ : ListBytes) : Type 0 where
+pub record Checked (S : Session) (p : Pass) (b : ListBytes) (r : Reply) (b′ : ListBytes) : Type 0 where
   pub reply : r ≡ replied (checkPass S p (listsIn b) .reply)
   pub lists : listsIn b′ ≡ checkPass S p (listsIn b) .lists
   -- A refusal leaves every byte.
-  pub refused : isAccepted (r .verdict) ≡ false → b′ ≡ b
+  pub refused : r .number ≢ 0 → b′ ≡ b
   -- In any case the bytes past the records of each list stay.
   pub rest : RestsStay b b′
-  pub whole : Whole r

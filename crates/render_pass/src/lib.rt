@@ -9,9 +9,10 @@ use attachment_checks::mask::mask_verdict;
 use attachment_checks::slot_steps;
 use attachment_checks::views::none_seen;
 use attachments::depth_stencil_part;
-use attachments::resolve::Attachments;
-use attachments::resolve::no_attachments;
-use attachments::resolve::resolve;
+use attachments::empty_reply;
+use attachments::resolve::plans_of;
+use attachments::resolve::replies_of;
+use definition::Attachment;
 use definition::Progress;
 use definition::Seen;
 use definition::Verdict;
@@ -19,8 +20,8 @@ use definition::refusals::INVALID_PASS;
 use definition::refusals::TOO_MANY_ACTIONS;
 use definition::refusals::TOO_MANY_DISCARDS;
 use definition::sizes::MAX_ACTIONS;
+use definition::sizes::MAX_ATTACHMENTS;
 use definition::verdicts::NOWHERE;
-use definition::verdicts::accepted;
 use definition::verdicts::is_accepted;
 use definition::verdicts::refused_at;
 use definition::verdicts::then;
@@ -30,37 +31,43 @@ use lists::count;
 use memory_init::recording::record_pass;
 use memory_init::tally::Tally;
 use memory_init::tally::tally_pass;
+use session::PassRow;
 use session::mask;
 use session_validation::pass_valid;
 ghost use mathlib.Core.Path.{_≡_};
-ghost use mathlib.Core.Bool.{true};
+ghost use mathlib.Core.Bool.{true, cond};
 ghost use Prim.Native.Nat.{_+_, _*_, _≤_};
 ghost use Rattle.definition.specs.Sizes.{maxSlots, maxDiscards, maxActions, maxAttachments};
 ghost use Rattle.definition.specs.Session.{session};
 ghost use Rattle.definition.specs.Check.{check, viewSteps};
 ghost use Rattle.definition.specs.Verdict.{isAccepted};
 ghost use Rattle.definition.specs.Pass as Pass;
+ghost use Rattle.session.specs.Rows.{passIn};
 ghost use Rattle.lists.specs.Lent.{bytes};
 ghost use Rattle.render_pass.specs.Outcome.{replied, roomBy, Checkable, Checked};
 
-// What a pass check replies. Of the list of clears, the first `clears` are returned.
+// The reply to one pass, as C callers see it: numbers, and attachments in as many records as a pass has at most. Of a refused pass every
+// field after `earlier` is 0. Of the lent clears, the first `clears` are returned.
 #[repr(C)]
-pub struct PassReply {
-    pub verdict: Verdict,
+pub struct Reply {
+    pub number: u32,
+    pub place: u32,
+    pub earlier: u32,
     pub width: u32,
     pub height: u32,
     pub samples: u32,
-    pub is_depth_read_only: bool,
-    pub is_stencil_read_only: bool,
+    pub depth_read_only: u32,
+    pub stencil_read_only: u32,
     pub divergent: u32,
-    pub attachments: Attachments,
-    pub clears: usize,
+    pub clears: u32,
+    pub count: u32,
+    pub attachments: [Attachment; MAX_ATTACHMENTS],
 }
 
 // 30 to 48 and 51: the depth-stencil view, then each slot, then the mask.
-fn view_steps(s: &[u8], pass: u32) -> Progress
-    requires { ⌜ session (now s) .pass pass .colors ≤ maxSlots ⌝ }
-    ensures { λ r. ⌜ r ≡ viewSteps (session (now (s .entry))) (session (now (s .entry)) .pass pass) ⌝ }
+fn view_steps(s: &[u8], pass: PassRow) -> Progress
+    requires { ⌜ passIn (now s) pass .colors ≤ maxSlots ⌝ }
+    ensures { λ r. ⌜ r ≡ viewSteps (session (now (s .entry))) (passIn (now (s .entry)) pass) ⌝ }
 {
     let n = session::colors(s, pass);
     let fit = bytes_fit(s, pass, n);
@@ -74,8 +81,8 @@ fn view_steps(s: &[u8], pass: u32) -> Progress
 }
 
 // 5, 10 to 48 and 51, and what the views have fixed.
-fn start(s: &[u8], pass: u32) -> Progress
-    ensures { λ r. ⌜ r ≡ check (session (now (s .entry))) (session (now (s .entry)) .pass pass) ⌝ }
+fn start(s: &[u8], pass: PassRow) -> Progress
+    ensures { λ r. ⌜ r ≡ check (session (now (s .entry))) (passIn (now (s .entry)) pass) ⌝ }
 {
     if !pass_valid(s, pass) {
         return Progress {
@@ -104,81 +111,93 @@ fn room_verdict(t: Tally, actions: usize) -> Verdict
     )
 }
 
+// 1 for true.
+fn flag(b: bool) -> u32
+    ensures { λ r. ⌜ r ≡ cond b 1 0 ⌝ }
+{
+    if b { 1 } else { 0 }
+}
+
 // A refused pass replies with no attachments or clears.
-fn refusal(v: Verdict) -> PassReply
+pub fn refusal(v: Verdict) -> Reply
     ensures { λ r. ⌜ r ≡ replied (Pass.refusal v) ⌝ }
 {
-    PassReply {
-        verdict: v,
+    Reply {
+        number: v.number,
+        place: v.place,
+        earlier: v.earlier,
         width: 0,
         height: 0,
         samples: 0,
-        is_depth_read_only: false,
-        is_stencil_read_only: false,
+        depth_read_only: 0,
+        stencil_read_only: 0,
         divergent: 0,
-        attachments: no_attachments(),
         clears: 0,
+        count: 0,
+        attachments: [empty_reply(); MAX_ATTACHMENTS],
     }
 }
 
 // A pass that 5, 10 to 48 and 51 accept: 49 and 50, then what it leaves in the lists, and its reply.
 fn finish(
     s: &[u8],
-    pass: u32,
+    pass: PassRow,
     seen: Seen,
     discards: &mut [u8],
     actions: &mut [u8],
     clears: &mut [u8],
-) -> PassReply
+) -> Reply
     requires { ⌜
-        (let S = session (now s) in
-        (isAccepted (check S (S .pass pass) .verdict) ≡ true) × (seen ≡ check S (S .pass pass) .seen)) ⌝ }
+        (let p = check (session (now s)) (passIn (now s) pass) in
+        (isAccepted (p .verdict) ≡ true) × (seen ≡ p .seen)) ⌝ }
     requires { ⌜ Checkable (session (now s)) (bytes (now discards) (now actions) (now clears)) ⌝ }
     ensures { λ r. ⌜
-        (let S = session (now (s .entry)) in
-        Checked S (S .pass pass)
+        Checked (session (now (s .entry))) (passIn (now (s .entry)) pass)
         (bytes (now (discards .entry)) (now (actions .entry)) (now (clears .entry)))
         r
-        (bytes (now (discards .exit)) (now (actions .exit)) (now (clears .exit)))) ⌝ }
+        (bytes (now (discards .exit)) (now (actions .exit)) (now (clears .exit))) ⌝ }
 {
     let d = depth_stencil_part(s, pass);
-    let resolved = resolve(s, pass, d, session::colors(s, pass));
-    let plans = resolved.plans;
+    let n = session::colors(s, pass);
+    let plans = plans_of(s, pass, d, n);
     let t = tally_pass(discards, plans);
     let room = room_verdict(t, count(actions));
     if !is_accepted(room) {
         return refusal(room);
     }
     record_pass(discards, actions, clears, plans, t);
-    let replies = resolved.replies;
-    PassReply {
-        verdict: accepted(),
+    let replies = replies_of(s, pass, d, n);
+    let records = replies.records;
+    Reply {
+        number: 0,
+        place: NOWHERE,
+        earlier: NOWHERE,
         width: seen.width,
         height: seen.height,
         samples: seen.samples,
-        is_depth_read_only: d.is_depth_read_only,
-        is_stencil_read_only: d.is_stencil_read_only,
+        depth_read_only: flag(d.is_depth_read_only),
+        stencil_read_only: flag(d.is_stencil_read_only),
         divergent: d.divergent,
-        attachments: replies,
-        clears: t.returned,
+        clears: t.returned as u32,
+        count: replies.count,
+        attachments: records,
     }
 }
 
 // One pass check, of a session whose views can be read, on lent lists that are in range.
 pub fn check_pass(
     s: &[u8],
-    pass: u32,
+    pass: PassRow,
     discards: &mut [u8],
     actions: &mut [u8],
     clears: &mut [u8],
-) -> PassReply
+) -> Reply
     requires { ⌜ Checkable (session (now s)) (bytes (now discards) (now actions) (now clears)) ⌝ }
     ensures { λ r. ⌜
-        (let S = session (now (s .entry)) in
-        Checked S (S .pass pass)
+        Checked (session (now (s .entry))) (passIn (now (s .entry)) pass)
         (bytes (now (discards .entry)) (now (actions .entry)) (now (clears .entry)))
         r
-        (bytes (now (discards .exit)) (now (actions .exit)) (now (clears .exit)))) ⌝ }
+        (bytes (now (discards .exit)) (now (actions .exit)) (now (clears .exit))) ⌝ }
 {
     let judged = start(s, pass);
     let verdict = judged.verdict;

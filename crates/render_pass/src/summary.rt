@@ -3,19 +3,21 @@
 use crate::room_verdict;
 use crate::start;
 use attachments::depth_stencil_part;
-use attachments::resolve::resolve;
+use attachments::resolve::plans_of;
 use definition::Seen;
 use definition::Verdict;
 use definition::verdicts::accepted;
 use definition::verdicts::is_accepted;
 use memory_init::recording::record_discards;
 use memory_init::tally::tally_pass;
+use session::PassRow;
 ghost use mathlib.Core.Path.{_≡_};
 ghost use mathlib.Core.Bool.{true};
 ghost use Rattle.definition.specs.Session.{session};
 ghost use Rattle.definition.specs.Check.{check};
 ghost use Rattle.definition.specs.Verdict.{isAccepted};
-ghost use Rattle.render_pass.specs.Summing.{Summable, Summed, refusedSummary};
+ghost use Rattle.session.specs.Rows.{passIn};
+ghost use Rattle.render_pass.specs.Summary.{Summarizable, Summarized, refusedSummary};
 
 // What a row says of a pass, and how many actions there are after it.
 pub struct PassSummary {
@@ -44,22 +46,20 @@ fn refused_summary(v: Verdict, actions: usize) -> PassSummary
 // A pass that 5, 10 to 48 and 51 accept: 49 and 50, then the discards that it leaves.
 fn finish_summary(
     s: &[u8],
-    pass: u32,
+    pass: PassRow,
     seen: Seen,
     discards: &mut [u8],
     actions: usize,
 ) -> PassSummary
     requires { ⌜
-        (let S = session (now s) in
-        (isAccepted (check S (S .pass pass) .verdict) ≡ true) × (seen ≡ check S (S .pass pass) .seen)) ⌝ }
-    requires { ⌜ Summable (session (now s)) (now discards) actions ⌝ }
+        (let p = check (session (now s)) (passIn (now s) pass) in
+        (isAccepted (p .verdict) ≡ true) × (seen ≡ p .seen)) ⌝ }
+    requires { ⌜ Summarizable (session (now s)) (now discards) actions ⌝ }
     ensures { λ r. ⌜
-        (let S = session (now (s .entry)) in
-        Summed S (S .pass pass) (now (discards .entry)) actions r (now (discards .exit))) ⌝ }
+        Summarized (session (now (s .entry))) (passIn (now (s .entry)) pass) (now (discards .entry)) actions r (now (discards .exit)) ⌝ }
 {
     let d = depth_stencil_part(s, pass);
-    let resolved = resolve(s, pass, d, session::colors(s, pass));
-    let plans = resolved.plans;
+    let plans = plans_of(s, pass, d, session::colors(s, pass));
     let t = tally_pass(discards, plans);
     let room = room_verdict(t, actions);
     if !is_accepted(room) {
@@ -77,11 +77,10 @@ fn finish_summary(
 }
 
 // The check of a pass of a session whose views can be read, from these discards and so many actions.
-pub fn sum_up(s: &[u8], pass: u32, discards: &mut [u8], actions: usize) -> PassSummary
-    requires { ⌜ Summable (session (now s)) (now discards) actions ⌝ }
+pub fn summarize(s: &[u8], pass: PassRow, discards: &mut [u8], actions: usize) -> PassSummary
+    requires { ⌜ Summarizable (session (now s)) (now discards) actions ⌝ }
     ensures { λ r. ⌜
-        (let S = session (now (s .entry)) in
-        Summed S (S .pass pass) (now (discards .entry)) actions r (now (discards .exit))) ⌝ }
+        Summarized (session (now (s .entry))) (passIn (now (s .entry)) pass) (now (discards .entry)) actions r (now (discards .exit)) ⌝ }
 {
     let judged = start(s, pass);
     let verdict = judged.verdict;

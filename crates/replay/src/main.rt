@@ -20,6 +20,7 @@ use libc::STDOUT_FILENO;
 use session::ends;
 use session::header::pass_count;
 use session::header::texture_count;
+use session::pass_row;
 use session::surfaces::surfaces_before;
 ghost use mathlib.Core.Path.{_≡_};
 ghost use Prim.Native.Nat.{_≤_, _<_};
@@ -39,7 +40,7 @@ fn submission(
     clears: &[u8],
     status: &mut [u8],
 ) -> Place {
-    if !((ends(session, k) == 1) | is_last) {
+    if !((ends(session, pass_row(session, k)) == 1) | is_last) {
         return word(list, p, 0);
     }
     let number = deskcheck_submit(session, discards, actions, clears, status);

@@ -1,4 +1,4 @@
--- A header that is right has its passes end at or before the longest session's end, so that a longer file is refused as 1 or 2.
+-- A header that is valid has its passes end at or before the longest session's end, so that a longer file is refused as 1 or 2.
 use mathlib.Core.Path.{_≡_, refl, ap, _∙_}
 use mathlib.Core.Bool.{Bool, true, false, _&&_, cond}
 use mathlib.Core.List.{List}
@@ -17,7 +17,7 @@ use Rattle.laws.proofs.Readable.{valid-header}
 use Rattle.laws.proofs.Verdicts.{then-stop, then-go, unless-accepted, unless-refused}
 use Rattle.report.specs.Oversize.{oversizeNumber}
 
--- A right header's length field is at most the longest session's length.
+-- A valid header's length field is at most the longest session's length.
 header-most : (s : List ℕ) → headerValid s ≡ true → totalLength s ≤ longestSession
 header-most s e = let h = valid-header s e in omega (arith, h .textures, h .views, h .passes, h .end)
 

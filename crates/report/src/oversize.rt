@@ -1,5 +1,7 @@
 // The refusal of a file that is longer than any session, told from its header and its true length.
 // A program whose buffer holds every session can answer for every file so.
+use definition::refusals::INVALID_HEADER;
+use definition::refusals::WRONG_LENGTH;
 use definition::sizes::TOTAL_LENGTH_AT;
 use encoding::u32_at;
 ghost use mathlib.Core.Path.{_≡_};
@@ -24,8 +26,8 @@ pub fn oversize_refusal(head: &[u8], bytes: u64) -> u32
     ensures { λ _. ⌜ Se.totalLength (now (head .entry)) < lengthBound ⌝ }
 {
     if u32_at(head, TOTAL_LENGTH_AT) as u64 == bytes {
-        2
+        INVALID_HEADER
     } else {
-        1
+        WRONG_LENGTH
     }
 }

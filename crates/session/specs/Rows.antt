@@ -1,14 +1,15 @@
--- Texture rows, view rows by the textures before them, where the rows of the passes and their slots start, and a slot's views.
+-- Texture rows, view rows by the textures before them, pass rows by what stands before them, and a slot without its clear value.
 use Prim.Native.Nat.{ℕ, _+_, _*_, _≤_}
 use mathlib.Core.List.{List}
 use lib.ListN.{length}
 use Rattle.definition.specs.Sizes.{headerBytes, textureBytes, viewBytes, passBytes, slotStart, slotBytes}
-use Rattle.definition.specs.Session.{passStart, viewAt}
+use Rattle.definition.specs.Session.{Pass, viewAt, passAt}
+use Rattle.definition.specs.Pass.{black}
 use Rattle.definition.specs.declared.Texture.{Texture}
 use Rattle.definition.specs.declared.Slot.{Slot}
 use Rattle.definition.specs.declared.View.{View}
 use Rattle.encoding.specs.declared.Eight.{Eight}
-use Rattle.session.specs.declared.SlotViews.{SlotViews}
+use Rattle.session.specs.declared.PassRow.{PassRow}
 
 -- The first n texture rows lie inside.
 abbrev pub RowsInside : ℕ → List ℕ → Type 0
@@ -66,12 +67,25 @@ shapeOf v = record {
   format = 0;
 }
 
-abbrev pub passRow : List ℕ → ℕ → ℕ
-passRow s k = passStart s + passBytes * k
+-- A pass row and its slots, after so many textures, views and passes.
+abbrev pub passRow : PassRow → ℕ
+passRow p = headerBytes + textureBytes * p .textures + viewBytes * p .views + passBytes * p .passes
 
-abbrev pub slotRow : List ℕ → ℕ → ℕ → ℕ
-slotRow s pass k = passRow s pass + slotStart + slotBytes * k
+abbrev pub slotRow : PassRow → ℕ → ℕ
+slotRow p k = passRow p + slotStart + slotBytes * k
 
--- The views of a slot and its slice.
-abbrev pub viewsOf : Slot → SlotViews
-viewsOf c = record { view = c .view; slice = c .slice; resolve = c .resolve }
+-- The pass of a row.
+unfoldable pub passIn : List ℕ → PassRow → Pass
+passIn s p = passAt s (passRow p)
+
+-- A slot without its clear value.
+abbrev pub withoutClear : Slot → Slot
+withoutClear c = record {
+  view = c .view;
+  sliced = c .sliced;
+  slice = c .slice;
+  resolve = c .resolve;
+  load = c .load;
+  store = c .store;
+  clear = black;
+}

@@ -10,6 +10,14 @@ use encoding::has_bit;
 ghost use mathlib.Core.Path.{_≡_};
 ghost use Rattle.definition.specs.Session as Se;
 ghost use Rattle.definition.specs.Session.{session};
+ghost use Rattle.session.specs.Derived.{extentOf};
+
+// What the views of a pass have in common.
+pub struct Extent {
+    pub width: u32,
+    pub height: u32,
+    pub samples: u32,
+}
 
 // The bit of flag 1, strict.
 const STRICT: u32 = 0;
@@ -101,28 +109,16 @@ pub fn slices_in(t: Texture, mip: u32) -> u32
     }
 }
 
-// A view's samples: its texture's.
-pub fn samples_of(s: &[u8], v: View) -> u32
-    ensures { λ r. ⌜ r ≡ Se.samplesOf (session (now (s .entry))) v ⌝ }
+// A view's width and height at its first mip, and its texture's samples.
+pub fn extent_of(s: &[u8], v: View) -> Extent
+    ensures { λ r. ⌜ r ≡ extentOf (session (now (s .entry))) v ⌝ }
 {
     let t = texture(s, v.texture);
-    t.samples
-}
-
-// A view's width at its first mip.
-pub fn width_of(s: &[u8], v: View) -> u32
-    ensures { λ r. ⌜ r ≡ Se.widthOf (session (now (s .entry))) v ⌝ }
-{
-    let t = texture(s, v.texture);
-    mip_size(t.width, v.mip)
-}
-
-// A view's height at its first mip.
-pub fn height_of(s: &[u8], v: View) -> u32
-    ensures { λ r. ⌜ r ≡ Se.heightOf (session (now (s .entry))) v ⌝ }
-{
-    let t = texture(s, v.texture);
-    mip_size(t.height, v.mip)
+    Extent {
+        width: mip_size(t.width, v.mip),
+        height: mip_size(t.height, v.mip),
+        samples: t.samples,
+    }
 }
 
 // A view's mip depth.

@@ -11,6 +11,7 @@ use definition::Color;
 use definition::Slot;
 use definition::Texture;
 use definition::View;
+use definition::black;
 use definition::sizes::HEADER_BYTES;
 use definition::sizes::PASS_BYTES;
 use definition::sizes::SLOT_BYTES;
@@ -26,17 +27,18 @@ use encoding::u32_inside;
 use header::TEXTURE_COUNT;
 use header::VIEW_COUNT;
 use header::texture_count;
+use header::view_count;
 ghost use mathlib.Core.Path.{_≡_};
 ghost use Prim.Native.Nat.{_+_, _*_, _≤_};
 ghost use Rattle.definition.specs.Session as Se;
 ghost use Rattle.definition.specs.Session.{session};
-ghost use Rattle.session.specs.Rows.{RowsInside, ViewsInside, textureOf, viewOf, viewRow, viewAfter, shapeOf, passRow, slotRow, viewsOf};
+ghost use Rattle.session.specs.Rows.{RowsInside, ViewsInside, textureOf, viewOf, viewRow, viewAfter, shapeOf, passRow, passIn, slotRow, withoutClear};
 
-// The views of a colour slot and the slice of its colour view.
-pub struct SlotViews {
-    pub view: u32,
-    pub slice: u32,
-    pub resolve: u32,
+// A pass, by where its row stands: after so many textures, views and passes.
+pub struct PassRow {
+    pub textures: u32,
+    pub views: u32,
+    pub passes: u32,
 }
 
 // Where a view row's format stands, after eight numbers.
@@ -156,51 +158,64 @@ pub fn view_format(s: &[u8], k: u32) -> u32
 pub fn view(s: &[u8], k: u32) -> View
     ensures { λ r. ⌜ r ≡ session (now (s .entry)) .view k ⌝ }
 {
-    let mut v = view_shape(s, texture_count(s), k);
-    v.format = view_format(s, k);
-    v
+    let at = view_at(texture_count(s), k);
+    view_of(eight_at(s, at), u32_at(s, at + VIEW_FORMAT))
 }
 
-// Where pass row k starts.
-fn pass_at(s: &[u8], k: u32) -> usize
-    ensures { λ r. ⌜ (r ≡ passRow (now (s .entry)) k) × (r ≤ 10000000000000) ⌝ }
+// The row of the session's pass k.
+pub fn pass_row(s: &[u8], k: u32) -> PassRow
+    ensures { λ r. ⌜ passIn (now (s .entry)) r ≡ session (now (s .entry)) .pass k ⌝ }
 {
-    pass_start(s) + PASS_BYTES * (k as usize)
+    PassRow {
+        textures: texture_count(s),
+        views: view_count(s),
+        passes: k,
+    }
+}
+
+// Where a pass row starts.
+fn pass_at(pass: PassRow) -> usize
+    ensures { λ r. ⌜ (r ≡ passRow pass) × (r ≤ 10000000000000) ⌝ }
+{
+    HEADER_BYTES
+        + TEXTURE_BYTES * (pass.textures as usize)
+        + VIEW_BYTES * (pass.views as usize)
+        + PASS_BYTES * (pass.passes as usize)
 }
 
 // The colour count of a pass row.
-pub fn colors(s: &[u8], pass: u32) -> u32
-    ensures { λ r. ⌜ r ≡ session (now (s .entry)) .pass pass .colors ⌝ }
+pub fn colors(s: &[u8], pass: PassRow) -> u32
+    ensures { λ r. ⌜ r ≡ passIn (now (s .entry)) pass .colors ⌝ }
 {
-    u32_at(s, pass_at(s, pass))
+    u32_at(s, pass_at(pass))
 }
 
 // Its multiview mask.
-pub fn mask(s: &[u8], pass: u32) -> u32
-    ensures { λ r. ⌜ r ≡ session (now (s .entry)) .pass pass .mask ⌝ }
+pub fn mask(s: &[u8], pass: PassRow) -> u32
+    ensures { λ r. ⌜ r ≡ passIn (now (s .entry)) pass .mask ⌝ }
 {
-    u32_at(s, pass_at(s, pass) + MASK)
+    u32_at(s, pass_at(pass) + MASK)
 }
 
 // Its ends-buffer field.
-pub fn ends(s: &[u8], pass: u32) -> u32
-    ensures { λ r. ⌜ r ≡ session (now (s .entry)) .pass pass .ends ⌝ }
+pub fn ends(s: &[u8], pass: PassRow) -> u32
+    ensures { λ r. ⌜ r ≡ passIn (now (s .entry)) pass .ends ⌝ }
 {
-    u32_at(s, pass_at(s, pass) + ENDS)
+    u32_at(s, pass_at(pass) + ENDS)
 }
 
 // Its depth-stencil view.
-pub fn depth_stencil(s: &[u8], pass: u32) -> u32
-    ensures { λ r. ⌜ r ≡ session (now (s .entry)) .pass pass .depthStencil ⌝ }
+pub fn depth_stencil(s: &[u8], pass: PassRow) -> u32
+    ensures { λ r. ⌜ r ≡ passIn (now (s .entry)) pass .depthStencil ⌝ }
 {
-    u32_at(s, pass_at(s, pass) + DEPTH_STENCIL)
+    u32_at(s, pass_at(pass) + DEPTH_STENCIL)
 }
 
 // The channel that stands at a field of a pass row: the first five of eight numbers.
-fn channel_at(s: &[u8], pass: u32, field: u32) -> Channel
-    ensures { λ r. ⌜ r ≡ Se.channelAt (now (s .entry)) (passRow (now (s .entry)) pass + field) ⌝ }
+fn channel_at(s: &[u8], pass: PassRow, field: u32) -> Channel
+    ensures { λ r. ⌜ r ≡ Se.channelAt (now (s .entry)) (passRow pass + field) ⌝ }
 {
-    let row = eight_at(s, pass_at(s, pass) + (field as usize));
+    let row = eight_at(s, pass_at(pass) + (field as usize));
     Channel {
         load: row.n0,
         store: row.n1,
@@ -211,24 +226,24 @@ fn channel_at(s: &[u8], pass: u32, field: u32) -> Channel
 }
 
 // The depth channel of a pass row.
-pub fn depth(s: &[u8], pass: u32) -> Channel
-    ensures { λ r. ⌜ r ≡ session (now (s .entry)) .pass pass .depth ⌝ }
+pub fn depth(s: &[u8], pass: PassRow) -> Channel
+    ensures { λ r. ⌜ r ≡ passIn (now (s .entry)) pass .depth ⌝ }
 {
     channel_at(s, pass, DEPTH)
 }
 
 // The stencil channel of a pass row.
-pub fn stencil(s: &[u8], pass: u32) -> Channel
-    ensures { λ r. ⌜ r ≡ session (now (s .entry)) .pass pass .stencil ⌝ }
+pub fn stencil(s: &[u8], pass: PassRow) -> Channel
+    ensures { λ r. ⌜ r ≡ passIn (now (s .entry)) pass .stencil ⌝ }
 {
     channel_at(s, pass, STENCIL)
 }
 
 // Where slot k of a pass row starts.
-fn slot_at(s: &[u8], pass: u32, k: u32) -> usize
-    ensures { λ r. ⌜ (r ≡ slotRow (now (s .entry)) pass k) × (r ≤ 20000000000000) ⌝ }
+fn slot_at(pass: PassRow, k: u32) -> usize
+    ensures { λ r. ⌜ (r ≡ slotRow pass k) × (r ≤ 20000000000000) ⌝ }
 {
-    pass_at(s, pass) + SLOT_START + SLOT_BYTES * (k as usize)
+    pass_at(pass) + SLOT_START + SLOT_BYTES * (k as usize)
 }
 
 // The four numbers of a colour, from a place on.
@@ -245,10 +260,10 @@ fn color_at(s: &[u8], at: usize) -> Color
 }
 
 // Slot k of a pass row: the first six of eight numbers, and the clear value.
-pub fn slot(s: &[u8], pass: u32, k: u32) -> Slot
-    ensures { λ r. ⌜ r ≡ session (now (s .entry)) .pass pass .slot k ⌝ }
+pub fn slot(s: &[u8], pass: PassRow, k: u32) -> Slot
+    ensures { λ r. ⌜ r ≡ passIn (now (s .entry)) pass .slot k ⌝ }
 {
-    let at = slot_at(s, pass, k);
+    let at = slot_at(pass, k);
     let row = eight_at(s, at);
     Slot {
         view: row.n0,
@@ -262,20 +277,24 @@ pub fn slot(s: &[u8], pass: u32, k: u32) -> Slot
 }
 
 // The view of slot k.
-pub fn slot_view(s: &[u8], pass: u32, k: u32) -> u32
-    ensures { λ r. ⌜ r ≡ session (now (s .entry)) .pass pass .slot k .view ⌝ }
+pub fn slot_view(s: &[u8], pass: PassRow, k: u32) -> u32
+    ensures { λ r. ⌜ r ≡ passIn (now (s .entry)) pass .slot k .view ⌝ }
 {
-    u32_at(s, slot_at(s, pass, k))
+    u32_at(s, slot_at(pass, k))
 }
 
-// The views of slot k and its slice, which tell the surfaces that it takes.
-pub fn slot_views(s: &[u8], pass: u32, k: u32) -> SlotViews
-    ensures { λ r. ⌜ r ≡ viewsOf (session (now (s .entry)) .pass pass .slot k) ⌝ }
+// Slot k without its clear value, which only a reply has.
+pub fn slot_without_clear(s: &[u8], pass: PassRow, k: u32) -> Slot
+    ensures { λ r. ⌜ r ≡ withoutClear (passIn (now (s .entry)) pass .slot k) ⌝ }
 {
-    let row = eight_at(s, slot_at(s, pass, k));
-    SlotViews {
+    let row = eight_at(s, slot_at(pass, k));
+    Slot {
         view: row.n0,
+        sliced: row.n1,
         slice: row.n2,
         resolve: row.n3,
+        load: row.n4,
+        store: row.n5,
+        clear: black(),
     }
 }

@@ -7,12 +7,13 @@ use crate::texture;
 use definition::Surface;
 use definition::Texture;
 use definition::sizes::MAX_SURFACES;
+use std::num::wrapping_sub_u32;
 ghost use mathlib.Core.Path.{_≡_};
 ghost use Prim.Native.Nat.{_+_, _*_, _≤_, min};
-ghost use lib.Dec.{leb};
 ghost use Rattle.definition.specs.Sizes.{maxSurfaces};
 ghost use Rattle.definition.specs.Session.{session, mipsBefore, surfacesIn, surfaceOffset};
 ghost use Rattle.session.specs.Counted.{surfacesUpTo};
+ghost use Rattle.session.specs.Derived.{isPart};
 
 // Where counting stops.
 const COUNTED_SURFACES: u64 = MAX_SURFACES as u64 + 1;
@@ -85,9 +86,10 @@ pub fn surfaces_before(s: &[u8], n: u32) -> u64
     sum
 }
 
-// Whether so many from the first on end by the last. The sum of two u32 fits a u64.
-pub fn ends_by(first: u32, count: u32, last: u32) -> bool
-    ensures { λ r. ⌜ r ≡ leb (first + count) last ⌝ }
+// Whether a range of mips or layers is non-empty and ends by the last: whether the last that it has is below that. Of none, one less is the
+// greatest u32, which is below no other.
+pub fn is_part(first: u32, count: u32, last: u32) -> bool
+    ensures { λ r. ⌜ r ≡ isPart first count last ⌝ }
 {
-    first as u64 + count as u64 <= last as u64
+    first as u64 + (wrapping_sub_u32(count, 1) as u64) < last as u64
 }

@@ -47,12 +47,12 @@ few-in : (t : Texture) → textureValid t ≡ true → surfacesIn t ≤ most
 few-in t e = let v = valid-texture t e in omega (arith, few-before t (t .mips) (v .depth .1), v .mips .1)
 
 -- Row k, its test, and its surfaces.
-module _ (S : Session) (k : ℕ) {t : Texture} {right : Bool} (row : t ≡ S .texture k) (test : right ≡ textureValid t) where
-  judged : right ≡ textureValid (S .texture k)
+module _ (S : Session) (k : ℕ) {t : Texture} {valid : Bool} (row : t ≡ S .texture k) (test : valid ≡ textureValid t) where
+  judged : valid ≡ textureValid (S .texture k)
   judged = test ∙ ap textureValid row
 
   -- One row more.
-  pub read-turn : {sum m : ℕ} → Read S k sum → right ≡ true → m ≡ surfacesIn t → Read S (k + 1) (sum + m)
+  pub read-turn : {sum m : ℕ} → Read S k sum → valid ≡ true → m ≡ surfacesIn t → Read S (k + 1) (sum + m)
   read-turn r e q =
       let m-few = few-in t (sym test ∙ e) in
       record {
@@ -62,7 +62,7 @@ module _ (S : Session) (k : ℕ) {t : Texture} {right : Bool} (row : t ≡ S .te
       }
 
   -- A row that cannot be read refuses the table.
-  pub row-refused : k < S .textureCount → right ≡ false → false ≡ texturesValid S
+  pub row-refused : k < S .textureCount → valid ≡ false → false ≡ texturesValid S
   unfolding texturesValid
   row-refused h e =
       let stop = textures-stop S (k + 1) (S .textureCount) (omega arith) (textures-turn S k ∙ and-off-right (texturesRead S k) _ (sym judged ∙ e)) in

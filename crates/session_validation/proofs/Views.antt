@@ -14,7 +14,8 @@ use Rattle.definition.specs.declared.View.{View}
 use Rattle.laws.proofs.Tests.{and-right, and-off-right, or-on-left, or-on-right, cond-on, cond-off}
 use Rattle.laws.proofs.Folds.{views-turn}
 use Rattle.session.specs.Rows.{viewRow, viewAfter}
-use Rattle.session_validation.specs.Tests.{isPart, layersFor}
+use Rattle.session.specs.Derived.{isPart}
+use Rattle.session_validation.specs.Tests.{layersFor}
 
 -- View rows stand after the session's own textures.
 pub view-own : (s : List ℕ) (textures k : ℕ) {v : View} → v ≡ viewAfter s textures k → textures ≡ session s .textureCount → v ≡ session s .view k

@@ -1,7 +1,7 @@
 -- Tests of rows that the code makes together: a texture's format with its dimension, and a view's range with what it may have.
 use mathlib.Core.Bool.{Bool, _&&_, _||_, cond}
-use Prim.Native.Nat.{ℕ, _+_}
-use lib.Dec.{leb, eqb}
+use Prim.Native.Nat.{ℕ}
+use lib.Dec.{eqb}
 use Rattle.definition.specs.Formats.{isColor, isFormat}
 use Rattle.definition.specs.Session.{arrayLayers}
 use Rattle.definition.specs.Readable.{between, dimensionFits}
@@ -10,10 +10,6 @@ use Rattle.definition.specs.declared.Texture.{Texture}
 -- The tests of a texture's format and dimension.
 unfoldable pub formatValid : ℕ → ℕ → Bool
 formatValid f d = isFormat f && between 1 3 d && (isColor f || eqb d 2)
-
--- A range of mips or layers is non-empty and ends by the last.
-unfoldable pub isPart : ℕ → ℕ → ℕ → Bool
-isPart first count last = leb 1 count && leb (first + count) last
 
 -- The layers that a view of dimension v may have: none where the dimension does not go with the texture's.
 unfoldable pub layersFor : ℕ → Texture → ℕ

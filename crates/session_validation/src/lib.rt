@@ -25,6 +25,7 @@ use definition::sizes::PASS_BYTES;
 use definition::sizes::TOTAL_LENGTH_AT;
 use encoding::has_bit;
 use encoding::u32_at;
+use session::PassRow;
 use session::colors;
 use session::depth;
 use session::depth_stencil;
@@ -44,9 +45,9 @@ use session::header::pass_count;
 use session::header::texture_count;
 use session::header::view_count;
 use session::pass_start;
-use session::slot;
+use session::slot_without_clear;
 use session::stencil;
-use session::surfaces::ends_by;
+use session::surfaces::is_part;
 use session::surfaces::surfaces_in;
 use session::texture_inside;
 use session::view_inside;
@@ -55,8 +56,8 @@ ghost use mathlib.Core.Path.{_≡_};
 ghost use Rattle.definition.specs.Session as Se;
 ghost use Rattle.definition.specs.Session.{session};
 ghost use Rattle.definition.specs.Readable as Re;
-ghost use Rattle.session.specs.Rows.{RowsInside, ViewsInside};
-ghost use Rattle.session_validation.specs.Tests.{formatValid, layersFor, isPart};
+ghost use Rattle.session.specs.Rows.{RowsInside, ViewsInside, passIn};
+ghost use Rattle.session_validation.specs.Tests.{formatValid, layersFor};
 
 // The numbers of samples that a texture may have, each by its bit: 1, 2, 4, 8 and 16.
 const SAMPLES: u32 = 0x1_0116;
@@ -182,21 +183,14 @@ fn layers_for(v: u32, t: Texture) -> u32
     0
 }
 
-// Whether a range of mips or layers is non-empty and ends by the last.
-fn part(first: u32, count: u32, last: u32) -> bool
-    ensures { λ r. ⌜ r ≡ isPart first count last ⌝ }
-{
-    (1 <= count) & ends_by(first, count, last)
-}
-
 // W3C "texture view creation": whether a view's ranges are non-empty and inside the texture, and its other fields fit.
 fn view_in_texture(t: Texture, v: View) -> bool
     ensures { λ r. ⌜ r ≡ Re.viewInTexture t v ⌝ }
 {
-    if !part(v.mip, v.mips, t.mips) {
+    if !is_part(v.mip, v.mips, t.mips) {
         return false;
     }
-    if !part(v.layer, v.layers, layers_for(v.dimension, t)) {
+    if !is_part(v.layer, v.layers, layers_for(v.dimension, t)) {
         return false;
     }
     if !usage_among(v.usage, t.usage) {
@@ -234,7 +228,7 @@ fn first_views_valid(s: &[u8], textures: u32, n: u32) -> bool
     true
 }
 
-// The session's refusal: 1 to 4, or 0 for none. A table is read only where the header is right, so the time is bounded.
+// The session's refusal: 1 to 4, or 0 for none. A table is read only where the header is valid, so the time is bounded.
 pub fn session_refusal(s: &[u8]) -> u32
     ensures { λ r. ⌜ r ≡ Re.sessionRefusal (now (s .entry)) ⌝ }
 {
@@ -262,12 +256,14 @@ fn channel_reads(c: Channel) -> bool
 }
 
 // Whether the depth-stencil part of a pass row can be read. The rest of an empty part is not examined.
-fn depth_stencil_reads(s: &[u8], pass: u32) -> bool
-    ensures { λ r. ⌜ r ≡ Re.depthStencilReads (session (now (s .entry))) (session (now (s .entry)) .pass pass) ⌝ }
+fn depth_stencil_reads(s: &[u8], pass: PassRow) -> bool
+    ensures { λ r. ⌜ r ≡ Re.depthStencilReads (session (now (s .entry))) (passIn (now (s .entry)) pass) ⌝ }
 {
     let v = depth_stencil(s, pass);
-    is_none(v)
-        | (v < view_count(s)) & channel_reads(depth(s, pass)) & channel_reads(stencil(s, pass))
+    if is_none(v) {
+        return true;
+    }
+    (v < view_count(s)) & channel_reads(depth(s, pass)) & channel_reads(stencil(s, pass))
 }
 
 // Whether a slot's resolve view is none, or a view's number.
@@ -290,21 +286,21 @@ fn slot_reads(s: &[u8], c: Slot) -> bool
 }
 
 // Whether each of the first n slots of a pass row can be read.
-fn slots_read(s: &[u8], pass: u32, n: u32) -> bool
-    ensures { λ r. ⌜ r ≡ Re.slotsRead (session (now (s .entry))) (session (now (s .entry)) .pass pass) n ⌝ }
+fn slots_read(s: &[u8], pass: PassRow, n: u32) -> bool
+    ensures { λ r. ⌜ r ≡ Re.slotsRead (session (now (s .entry))) (passIn (now (s .entry)) pass) n ⌝ }
 {
     let mut all = true;
     let mut k = 0u32;
     while k < n {
-        all = all & slot_reads(s, slot(s, pass, k));
+        all = all & slot_reads(s, slot_without_clear(s, pass, k));
         k += 1;
     }
     all
 }
 
 // 5: whether a pass row can be read. Slots from the colour count on are not examined.
-pub fn pass_valid(s: &[u8], pass: u32) -> bool
-    ensures { λ r. ⌜ r ≡ Re.passValid (session (now (s .entry))) (session (now (s .entry)) .pass pass) ⌝ }
+pub fn pass_valid(s: &[u8], pass: PassRow) -> bool
+    ensures { λ r. ⌜ r ≡ Re.passValid (session (now (s .entry))) (passIn (now (s .entry)) pass) ⌝ }
 {
     let n = colors(s, pass);
     if n > MAX_SLOTS {

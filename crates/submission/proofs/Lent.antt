@@ -1,4 +1,4 @@
--- Each record of a lent list that is right.
+-- Each record of a lent list that is valid.
 use Prim.Native.Nat.{ℕ, _<_}
 use mathlib.Core.Path.{_≡_, ap, _∙_}
 use mathlib.Core.Bool.{Bool, true, _&&_, and-true}
@@ -20,7 +20,7 @@ list-each k decode all one more b =
     let l = drop countBytes b in
     and-each (λ n. all (records k decode n l)) (λ i. one (recordAt k decode i l)) (λ n. ap all (records-suc k decode n l) ∙ more (records k decode n l) (recordAt k decode n l)) (countIn b)
 
--- The session has each surface of a list that is right, and the range of each action.
+-- The session has each surface of a list that is valid, and the range of each action.
 pub surfaces-each : (S : Session) (b : List ℕ) → surfacesValid S (surfacesIn b) ≡ true → (i : ℕ) → i < countIn b → surfaceValid S (surfaceIn i b) ≡ true
 surfaces-each S =
     list-each surfaceBytes surfaceOf (surfacesValid S) (surfaceValid S) (λ xs x. surfaces-append S xs (x ∷ []) ∙ ap (λ q. surfacesValid S xs && q) (and-true (surfaceValid S x)))

@@ -19,7 +19,7 @@ use Rattle.lists.specs.Lists.{countIn, surfaceOf, CountSet}
 use Rattle.lists.proofs.Lists.{list-length, emptied}
 use Rattle.memory_init.specs.Tally.{DiscardsInRoom}
 use Rattle.render_pass.specs.declared.summary.PassSummary.{PassSummary}
-use Rattle.render_pass.specs.Summing.{summary, StandFor, Summed}
+use Rattle.render_pass.specs.Summary.{summary, StandFor, Summarized}
 use Rattle.whole_session.specs.Numbers.{numbersAt, putNumbers}
 use Rattle.whole_session.specs.Rows.{listsBefore, rowAt, firstRows, rowsIn, Reached}
 use Rattle.whole_session.proofs.Numbers.{numbers-kept, numbers-past}
@@ -41,7 +41,7 @@ module _ (S : Session) (passes k : ℕ) where
   unfolding listsBefore
   next-lists = ap (listsBefore S passes) (add-one k) ∙ ap (λ (q : ℕ). nextLists (S .pass k) (passes - q) (checkPass S (S .pass k) (listsBefore S passes k) .lists)) (sym (add-one k))
 
-  module _ (d : List ℕ) (a : ℕ) (at : Reached S passes k d a) (said : PassSummary) (d′ : List ℕ) (sum : Summed S (S .pass k) d a said d′) where
+  module _ (d : List ℕ) (a : ℕ) (at : Reached S passes k d a) (said : PassSummary) (d′ : List ℕ) (sum : Summarized S (S .pass k) d a said d′) where
     abbrev o : Outcome
     o = checkPass S (S .pass k) (listsBefore S passes k)
 

@@ -9,7 +9,7 @@ use Rattle.definition.specs.Pass.{checkPass}
 use Rattle.definition.specs.Calls.{noEntries}
 use Rattle.definition.specs.Program.{line, nextLists}
 use Rattle.memory_init.specs.Tally.{DiscardsInRoom}
-use Rattle.render_pass.specs.Summing.{StandFor}
+use Rattle.render_pass.specs.Summary.{StandFor}
 use Rattle.whole_session.specs.declared.Row.{Row}
 use Rattle.whole_session.specs.Numbers.{numbersAt}
 

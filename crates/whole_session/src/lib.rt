@@ -8,9 +8,11 @@ use definition::sizes::ROW_BYTES;
 use definition::sizes::ROW_NUMBERS;
 use lists::count;
 use lists::set_count;
-use render_pass::summary::sum_up;
+use render_pass::summary::summarize;
+use session::PassRow;
 use session::ends;
 use session::header::pass_count;
+use session::pass_row;
 use words::write_numbers;
 ghost use mathlib.Core.Path.{_≡_};
 ghost use mathlib.Core.Bool.{true};
@@ -20,6 +22,7 @@ ghost use Rattle.definition.specs.Sizes.{rowBytes, rowsBytes};
 ghost use Rattle.definition.specs.Session.{session};
 ghost use Rattle.definition.specs.Readable.{viewsValid, sessionRefusal};
 ghost use Rattle.definition.specs.Program.{endsBuffer};
+ghost use Rattle.session.specs.Rows.{passIn};
 ghost use Rattle.whole_session.specs.Rows.{rowsIn, firstRows, Reached, Advances};
 
 // The row of a pass, and how many actions there are before the next one.
@@ -28,12 +31,12 @@ pub struct Row {
     pub actions: usize,
 }
 
-// Whether a buffer ends at pass k: by its flag, or as the last of so many.
-fn ends_buffer(s: &[u8], k: u32, passes: u32) -> bool
+// Whether a buffer ends at a pass, number k of so many: by its flag, or as the last.
+fn ends_buffer(s: &[u8], pass: PassRow, k: u32, passes: u32) -> bool
     requires { ⌜ k < passes ⌝ }
-    ensures { λ r. ⌜ r ≡ endsBuffer (session (now (s .entry)) .pass k) (passes - (k + 1)) ⌝ }
+    ensures { λ r. ⌜ r ≡ endsBuffer (passIn (now (s .entry)) pass) (passes - (k + 1)) ⌝ }
 {
-    (ends(s, k) == 1) | (k + 1 == passes)
+    (ends(s, pass) == 1) | (k + 1 == passes)
 }
 
 // The row of pass k of so many; the discards and the actions are then those from which the next pass starts.
@@ -42,7 +45,8 @@ pub fn next_row(s: &[u8], k: u32, passes: u32, discards: &mut [u8], actions: usi
     requires { ⌜ Reached (session (now s)) passes k (now discards) actions ⌝ }
     ensures { λ r. ⌜ Advances (session (now (s .entry))) passes k r (now (discards .exit)) ⌝ }
 {
-    let said = sum_up(s, k, discards, actions);
+    let pass = pass_row(s, k);
+    let said = summarize(s, pass, discards, actions);
     let v = said.verdict;
     let numbers: [u32; ROW_NUMBERS] = [
         k,
@@ -55,7 +59,7 @@ pub fn next_row(s: &[u8], k: u32, passes: u32, discards: &mut [u8], actions: usi
         said.clears as u32,
         count(discards) as u32,
     ];
-    if !ends_buffer(s, k, passes) {
+    if !ends_buffer(s, pass, k, passes) {
         return Row {
             numbers: numbers,
             actions: said.actions,

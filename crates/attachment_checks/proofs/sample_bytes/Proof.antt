@@ -4,13 +4,14 @@ use Prim.Native.Nat.{_*_, _≤_, _-_}
 use native.Mathlib.Omega.{arith}
 use borrow.Author.Needs.{needs}
 use Rattle.definition.specs.Session.{session}
+use Rattle.session.specs.Rows.{passIn}
 use Rattle.definition.specs.Check.{sampleBytes}
 use Rattle.laws.proofs.Folds.{sample-none, sample-turn}
 use Rattle.attachment_checks.proofs.sample_bytes.Statement.{statement}
 use Rattle.attachment_checks.proofs.sample_bytes.Tie as tie
 
 abbrev Inv-loop : tie.InvT-loop
-Inv-loop s pass n slots bytes₀ k₀ bytes k = (bytes ≡ sampleBytes (session s) (session s .pass pass) k) × (k ≤ slots) × (bytes ≤ 19 * k)
+Inv-loop s pass n slots bytes₀ k₀ bytes k = (bytes ≡ sampleBytes (session s) (passIn s pass) k) × (k ≤ slots) × (bytes ≤ 19 * k)
 
 abbrev μ-loop : tie.MeasureT-loop
 μ-loop s pass n slots bytes₀ k₀ bytes k = slots - k

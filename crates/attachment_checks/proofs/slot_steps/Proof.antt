@@ -4,13 +4,14 @@ use Prim.Native.Nat.{_≤_, _-_}
 use native.Mathlib.Omega.{arith}
 use borrow.Author.Needs.{needs}
 use Rattle.definition.specs.Session.{session}
+use Rattle.session.specs.Rows.{passIn}
 use Rattle.definition.specs.Check.{slotSteps}
 use Rattle.laws.proofs.Folds.{steps-none, steps-turn}
 use Rattle.attachment_checks.proofs.slot_steps.Statement.{statement}
 use Rattle.attachment_checks.proofs.slot_steps.Tie as tie
 
 abbrev Inv-loop : tie.InvT-loop
-Inv-loop s pass fit n slots b₀ k₀ b k = (b ≡ slotSteps (session s) (session s .pass pass) fit b₀ k) × (k ≤ slots)
+Inv-loop s pass fit n slots b₀ k₀ b k = (b ≡ slotSteps (session s) (passIn s pass) fit b₀ k) × (k ≤ slots)
 
 abbrev μ-loop : tie.MeasureT-loop
 μ-loop s pass fit n slots b₀ k₀ b k = slots - k

@@ -1,4 +1,4 @@
--- The surfaces are the view's at the slot's slice, and the rest is the plan of the slot's operations.
+-- The surfaces are the view's at the slot's slice, and the rest is the effect of the slot's operations.
 use mathlib.Core.Path.{ap, _∙_}
 use Rattle.definition.specs.Attachments.{regularKind}
 use mathlib.Core.Bool.{not}
@@ -7,11 +7,11 @@ use Rattle.attachments.proofs.color_planned.Statement.{statement}
 use Rattle.attachments.proofs.color_planned.Tie as tie
 
 returns : tie.Need-returns
-returns c = record {
-  range = simp (c .slice-range .ensures, c .before .view .ensures);
-  kind = c .before .before .color-plan .ensures .0 ∙ ap regularKind (c .before .before .before .ops-of .ensures);
-  discards = c .before .before .color-plan .ensures .1 ∙ ap (λ o. not (o .keep)) (c .before .before .before .ops-of .ensures);
-}
+returns c =
+    let ops = c .before .before .before .ops-of .ensures in
+    let plan = c .before .before .color-effect .ensures in
+    let range = simp (c .before .view .ensures) at (c .slice-range .ensures) in
+    λ i. record { range = range i; kind = (plan .0 ∙ ap regularKind ops) i; discards = (plan .1 ∙ ap (λ o. not (o .keep)) ops) i }
 
 pub color-planned-spec : {M : Type 1} → statement M
 color-planned-spec =

@@ -6,18 +6,21 @@ use Rattle.attachments.proofs.depth_stencil_of.Statement.{statement}
 use Rattle.attachments.proofs.depth_stencil_of.Tie as tie
 
 returns : tie.Need-returns
-returns c = record {
-  present = refl;
-  planned = record {
-    range = c .before .before .before .view-range .ensures ∙ ap viewRange (c .before .before .before .before .before .before .before .before .view .ensures);
-    kind = simp (c .before .before .before .before .before .before .before .has-depth .ensures, c .before .before .before .before .before .before .has-stencil .ensures) at (c .before .before .before .before .before .depth-stencil-plan .ensures .0);
-    discards = simp (c .before .before .before .before .before .before .before .has-depth .ensures, c .before .before .before .before .before .before .has-stencil .ensures) at (c .before .before .before .before .before .depth-stencil-plan .ensures .1);
-  };
-  reply = simp (c .before .before .depth-stencil-reply .ensures, c .before .before .before .before .usage-of .ensures, c .before .before .before .before .before .before .before .before .view .ensures);
-  depth = c .before .is-readonly .ensures;
-  stencil = c .is-readonly2 .ensures;
-  divergent = simp (c .before .before .before .before .before .before .before .has-depth .ensures, c .before .before .before .before .before .before .has-stencil .ensures) at (c .before .before .before .before .before .depth-stencil-plan .ensures .2);
-}
+returns c =
+    let range = c .before .before .before in
+    let plan = range .before .before in
+    let stencil = plan .before in
+    let depth = stencil .before in
+    let view = depth .before in
+    let planned = simp (depth .has-depth .ensures, stencil .has-stencil .ensures) at (plan .depth-stencil-effect .ensures) in
+    record {
+      present = refl;
+      planned = λ i. record { range = (range .view-range .ensures ∙ ap viewRange (view .view .ensures)) i; kind = planned .0 i; discards = planned .1 i };
+      reply = simp (c .before .before .depth-stencil-reply .ensures, range .before .usage-of .ensures, view .view .ensures);
+      depth = c .before .is-readonly .ensures;
+      stencil = c .is-readonly2 .ensures;
+      divergent = planned .2;
+    }
 
 pub depth-stencil-of-spec : {M : Type 1} → statement M
 depth-stencil-of-spec =

@@ -9,7 +9,7 @@ use Rattle.definition.specs.Session.{session}
 use Rattle.definition.specs.Calls.{actionsValid}
 use Rattle.laws.proofs.Tests.{and-right}
 use Rattle.lists.specs.Lists.{firstActions}
-use Rattle.buffer_validation.specs.Right.{isFlat}
+use Rattle.buffer_validation.specs.Ranges.{isFlat}
 use Rattle.buffer_validation.proofs.Turns.{actions-none, actions-go}
 use Rattle.buffer_validation.proofs.actions_left.Statement.{statement}
 use Rattle.buffer_validation.proofs.actions_left.Tie as tie
@@ -34,8 +34,8 @@ loop-again c =
     let at = judged .before .before .before in
     let start = at .before .before .before .before in
     let passed = sym (judged .flat-among .ensures) ∙ not-false (judged .flat-among .result) (c .if1 .left) in
-    let right = simp (judged .before .range-at .ensures) at (and-right (isFlat (session (start .args .s .now)) (judged .before .range-at .result)) _ passed) in
-    (actions-go (session (start .args .s .now)) (start .args .b .now) (at .before .count .result) (at .loop .left) (omega arith) (at .loop .inv .1) (at .loop .inv .0) right, omega arith)
+    let valid = simp (judged .before .range-at .ensures) at (and-right (isFlat (session (start .args .s .now)) (judged .before .range-at .result)) _ passed) in
+    (actions-go (session (start .args .s .now)) (start .args .b .now) (at .before .count .result) (at .loop .left) (omega arith) (at .loop .inv .1) (at .loop .inv .0) valid, omega arith)
 
 returns-2 : tie.Need-returns-2 Inv-loop μ-loop
 returns-2 c = let at = c .before in

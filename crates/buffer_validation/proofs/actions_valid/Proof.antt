@@ -34,8 +34,8 @@ loop-again c =
     let judged = c .before in
     let at = judged .before .before .before in
     let start = at .before .before .before .before .before in
-    let right = simp (judged .before .range-at .ensures) at (sym (judged .range-among .ensures) ∙ not-false (judged .range-among .result) (c .if1 .left)) in
-    (actions-go (session (start .args .s .now)) (start .args .b .now) (at .before .before .count .result) (at .loop .left) (omega arith) (at .loop .inv .1) (at .loop .inv .0) right, omega arith)
+    let valid = simp (judged .before .range-at .ensures) at (sym (judged .range-among .ensures) ∙ not-false (judged .range-among .result) (c .if1 .left)) in
+    (actions-go (session (start .args .s .now)) (start .args .b .now) (at .before .before .count .result) (at .loop .left) (omega arith) (at .loop .inv .1) (at .loop .inv .0) valid, omega arith)
 
 returns-2 : tie.Need-returns-2 Inv-loop μ-loop
 returns-2 c =

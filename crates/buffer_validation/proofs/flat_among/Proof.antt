@@ -6,7 +6,7 @@ use borrow.Author.Tests.{le-ltb, lt-ltb, eq-eqb, ne-eqb}
 use Rattle.definition.specs.Session.{session}
 use Rattle.definition.specs.Calls.{rangeValid}
 use Rattle.laws.proofs.Tests.{and-off-right}
-use Rattle.buffer_validation.specs.Right.{isFlat, rangeFits}
+use Rattle.buffer_validation.specs.Ranges.{isFlat, rangeFits}
 use Rattle.buffer_validation.proofs.Fits.{range-valid}
 use Rattle.buffer_validation.proofs.flat_among.Statement.{statement}
 use Rattle.buffer_validation.proofs.flat_among.Tie as tie

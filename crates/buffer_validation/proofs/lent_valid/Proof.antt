@@ -9,10 +9,10 @@ use Rattle.definition.specs.Calls.{countsValid, lentValid}
 use Rattle.session_validation.specs.Valid.{Valid}
 use Rattle.session_validation.proofs.Valid.{valid-of}
 use Rattle.lists.specs.Lent.{listsIn}
-use Rattle.buffer_validation.specs.Right.{Textures}
+use Rattle.buffer_validation.specs.Ranges.{Textures}
 use Rattle.buffer_validation.specs.Buffers.{Buffers, buffers, RecordsInside}
 use Rattle.buffer_validation.proofs.Fits.{rows-inside}
-use Rattle.buffer_validation.proofs.Right.{long-of, status-long, records-inside, counts-fit}
+use Rattle.buffer_validation.proofs.Lent.{long-of, status-long, records-inside, counts-fit}
 use Rattle.buffer_validation.proofs.lent_valid.Statement.{statement}
 use Rattle.buffer_validation.proofs.lent_valid.Tie as tie
 

@@ -2,7 +2,7 @@
 use mathlib.Core.Path.{ap, _∙_}
 use borrow.Author.Needs.{needs}
 use borrow.Author.Tests.{le-ltb, lt-ltb}
-use Rattle.buffer_validation.specs.Right.{rangeFits}
+use Rattle.buffer_validation.specs.Ranges.{rangeFits}
 use Rattle.buffer_validation.proofs.Fits.{range-valid}
 use Rattle.buffer_validation.proofs.range_among.Statement.{statement}
 use Rattle.buffer_validation.proofs.range_among.Tie as tie

@@ -7,7 +7,7 @@ use lib.Dec.{leb}
 use borrow.Author.Needs.{needs}
 use borrow.Author.Tests.{not-true, not-false, leb-true}
 use Rattle.laws.proofs.Tests.{and-left, and-right}
-use Rattle.buffer_validation.specs.Right.{areaFits}
+use Rattle.buffer_validation.specs.Ranges.{areaFits}
 use Rattle.buffer_validation.proofs.range_fits.Statement.{statement}
 use Rattle.buffer_validation.proofs.range_fits.Tie as tie
 

@@ -2,7 +2,7 @@
 use mathlib.Core.Path.{ap, _∙_}
 use borrow.Author.Needs.{needs}
 use borrow.Author.Tests.{le-ltb, lt-ltb}
-use Rattle.buffer_validation.specs.Right.{surfaceFits}
+use Rattle.buffer_validation.specs.Ranges.{surfaceFits}
 use Rattle.buffer_validation.proofs.Fits.{surface-valid}
 use Rattle.buffer_validation.proofs.surface_among.Statement.{statement}
 use Rattle.buffer_validation.proofs.surface_among.Tie as tie

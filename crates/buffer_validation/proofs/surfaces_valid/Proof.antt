@@ -35,8 +35,8 @@ loop-again c =
     let judged = c .before in
     let at = judged .before .before .before in
     let start = at .before .before .before .before in
-    let right = simp (judged .before .surface-at .ensures) at (sym (judged .surface-among .ensures) ∙ not-false (judged .surface-among .result) (c .if1 .left)) in
-    (surfaces-go (session (start .args .s .now)) (start .args .b .now) (at .loop .i) (at .loop .inv .0) right, omega arith)
+    let valid = simp (judged .before .surface-at .ensures) at (sym (judged .surface-among .ensures) ∙ not-false (judged .surface-among .result) (c .if1 .left)) in
+    (surfaces-go (session (start .args .s .now)) (start .args .b .now) (at .loop .i) (at .loop .inv .0) valid, omega arith)
 
 returns-2 : tie.Need-returns-2 Inv-loop μ-loop
 returns-2 c =

@@ -6,11 +6,13 @@ use native.Mathlib.Numerals.{add-one}
 use borrow.Author.Needs.{needs}
 use Rattle.definition.specs.Check.{colorOps}
 use Rattle.definition.specs.Session.{session}
+use Rattle.session.specs.Rows.{passIn}
+use Rattle.session.proofs.Rows.{without-ops}
 use Rattle.descriptor.proofs.color_ops.Statement.{statement}
 use Rattle.descriptor.proofs.color_ops.Tie as tie
 
 abbrev Inv-loop : tie.InvT-loop
-Inv-loop s pass n judged₀ k₀ judged k = (judged ≡ colorOps (session s) (session s .pass pass) k) × (k ≤ n)
+Inv-loop s pass n judged₀ k₀ judged k = (judged ≡ colorOps (session s) (passIn s pass) k) × (k ≤ n)
 
 abbrev μ-loop : tie.MeasureT-loop
 μ-loop s pass n judged₀ k₀ judged k = n - k
@@ -24,7 +26,7 @@ unfolding colorOps
 loop-again c =
     let c4 = c .before .before .before .before in
     let c5 = c4 .before in
-    (rw add-one (simp (c .then .ensures, c .before .slot-ops .ensures, c .before .before .slot .ensures, c5 .accepted .ensures, c4 .loop .inv .0)), omega arith)
+    (rw add-one (simp (c .then .ensures, c .before .slot-ops .ensures, c .before .before .slot-without-clear .ensures, without-ops, c5 .accepted .ensures, c4 .loop .inv .0)), omega arith)
 
 returns : tie.Need-returns Inv-loop μ-loop
 returns c =

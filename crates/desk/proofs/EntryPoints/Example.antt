@@ -16,7 +16,7 @@ use Rattle.lists.specs.Lists.{surfaceOf, actionOfBytes}
 use Rattle.lists.specs.Lent.{RestsStay}
 use Rattle.buffer_validation.specs.Buffers.{Buffers, buffers, heldIn, tooShort}
 use Rattle.noninterference.specs.Memory.{Drawing, Contents}
-use Rattle.desk.specs.declared.reply.Reply.{Reply}
+use Rattle.render_pass.specs.declared.Reply.{Reply}
 use Rattle.desk.specs.Entry.{numberIn, Opened}
 use Rattle.desk.specs.Reply.{answered}
 use Rattle.desk.specs.Promise.{LengthsStay, PassPromise, SubmitPromise}

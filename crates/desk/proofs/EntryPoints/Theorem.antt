@@ -24,7 +24,7 @@ use Rattle.lists.proofs.Lists.{emptied}
 use Rattle.buffer_validation.specs.Buffers.{Buffers, heldIn, tooShort}
 use Rattle.attachments.proofs.Resolving.{take-padded}
 use Rattle.render_pass.proofs.Outcome.{refused-by-start, refused-by-room, accepted-pass}
-use Rattle.desk.specs.declared.reply.Reply as C
+use Rattle.render_pass.specs.declared.Reply as C
 use Rattle.desk.specs.Entry.{numberIn, Opened}
 use Rattle.desk.specs.Reply.{answered}
 use Rattle.desk.specs.Promise.{LengthsStay}

@@ -6,13 +6,13 @@ use Rattle.desk.proofs.deskcheck_pass.Statement.{statement}
 use Rattle.desk.proofs.deskcheck_pass.Tie as tie
 
 returns : tie.Need-returns
-returns c = passed-short _ _ _ _ (sym (c .before .before .is-short .ensures) ∙ c .before .if1 .taken) (c .refused-reply .ensures)
+returns c = passed-short _ _ _ _ (sym (c .before .before .is-short .ensures) ∙ c .before .if1 .taken) (c .refused .ensures)
 
 returns-2 : tie.Need-returns-2
 returns-2 c =
     let judged = c .before .before in
     passed-refused _ _ _ _ (sym (judged .before .before .is-short .ensures) ∙ judged .before .if1 .left) _ (c .before .if2 .taken)
-    (judged .session-refusal .ensures) (c .refused-reply2 .ensures)
+    (judged .session-refusal .ensures) (c .refused2 .ensures)
 
 pass-lent-requires : tie.Need-pass-lent-requires
 pass-lent-requires c κs =

@@ -25,23 +25,23 @@ surface-valid-requires c κs =
 returns-2 : tie.Need-returns-2
 unfolding statusIndex
 returns-2 c =
-    let right = c .before in
-    let judged = right .before .before in
-    simp (eq-eqb _ _ (sym (judged .session-refusal .ensures) ∙ right .before .if1 .left), sym (right .surface-valid .ensures) ∙ not-true _ (c .if2 .taken))
+    let valid = c .before in
+    let judged = valid .before .before in
+    simp (eq-eqb _ _ (sym (judged .session-refusal .ensures) ∙ valid .before .if1 .left), sym (valid .surface-valid .ensures) ∙ not-true _ (c .if2 .taken))
 
 index-of-requires : tie.Need-index-of-requires
 index-of-requires c κs =
-    let right = c .before in
-    let judged = right .before .before in
+    let valid = c .before in
+    let judged = valid .before .before in
     let s = judged .before .before .args .session .now in
-    (surface-inside (session s) _ (sym (right .surface-valid .ensures) ∙ not-false _ (c .if2 .left)), valid-of s (sym (judged .session-refusal .ensures) ∙ right .before .if1 .left) .surfaces _ (le-refl _))
+    (surface-inside (session s) _ (sym (valid .surface-valid .ensures) ∙ not-false _ (c .if2 .left)), valid-of s (sym (judged .session-refusal .ensures) ∙ valid .before .if1 .left) .surfaces _ (le-refl _))
 
 returns-3 : tie.Need-returns-3
 unfolding statusIndex
 returns-3 c =
-    let right = c .before .before in
-    let judged = right .before .before in
-    simp (eq-eqb _ _ (sym (judged .session-refusal .ensures) ∙ right .before .if1 .left), sym (right .surface-valid .ensures) ∙ not-false _ (c .before .if2 .left), c .index-of .ensures)
+    let valid = c .before .before in
+    let judged = valid .before .before in
+    simp (eq-eqb _ _ (sym (judged .session-refusal .ensures) ∙ valid .before .if1 .left), sym (valid .surface-valid .ensures) ∙ not-false _ (c .before .if2 .left), c .index-of .ensures)
 
 pub deskcheck-surface-index-spec : {M : Type 1} → statement M
 deskcheck-surface-index-spec = tie.close (tie.spec (λ c κs. search needs) returns surface-valid-requires returns-2 index-of-requires returns-3)

@@ -8,7 +8,7 @@ use Rattle.definition.specs.Session.{session}
 use Rattle.definition.specs.Calls.{lentValid}
 use Rattle.lists.specs.Lent.{Long}
 use Rattle.buffer_validation.specs.Buffers.{Buffers, buffers, heldIn}
-use Rattle.buffer_validation.proofs.Right.{long-of}
+use Rattle.buffer_validation.proofs.Lent.{long-of}
 use Rattle.desk.proofs.Sent.{sent-not-lent, sent-submits, sent-all}
 use Rattle.desk.proofs.submit_lent.Statement.{statement}
 use Rattle.desk.proofs.submit_lent.Tie as tie
@@ -20,11 +20,11 @@ start j = j .before .before .before .before .before .before .before .before .bef
 abbrev lent : tie.After-lent-valid → Buffers
 lent j = buffers (start j .args .discards .now) (start j .args .actions .now) (start j .args .clears .now) (start j .args .status .now)
 
--- What is lent is right.
-right : (c : tie.Else1) → lentValid (session (start (c .before) .args .session .now)) (heldIn (lent (c .before))) ≡ true
-right c = sym (c .before .lent-valid .ensures) ∙ not-false (c .before .lent-valid .result) (c .if1 .left)
+-- What is lent is valid.
+valid : (c : tie.Else1) → lentValid (session (start (c .before) .args .session .now)) (heldIn (lent (c .before))) ≡ true
+valid c = sym (c .before .lent-valid .ensures) ∙ not-false (c .before .lent-valid .result) (c .if1 .left)
 
--- From the submission back to where what is lent is right, and from the first count back to the submission.
+-- From the submission back to where what is lent is valid, and from the first count back to the submission.
 abbrev sent : tie.After-submit → tie.Else1
 sent c = c .before .before .before .before
 
@@ -43,7 +43,7 @@ returns c =
 submit-requires : tie.Need-submit-requires
 submit-requires c κs =
     let at = c .before .before .before in
-    sent-submits _ _ _ _ _ (start (at .before) .pre) (right at)
+    sent-submits _ _ _ _ _ (start (at .before) .pre) (valid at)
 
 set-count-requires : tie.Need-set-count-requires
 set-count-requires c κs = (omega (arith, long (begun c)), omega arith)
@@ -65,7 +65,7 @@ returns-2 c =
     let first = c .before .before .before .before .before .before in
     let made = begun (first .before) in
     let at = sent made in
-    sent-all _ _ _ _ _ (start (at .before) .pre) (right at) _ _ _ (first .set-count .ensures) (c .before .before .set-count2 .ensures) (made .submit .ensures)
+    sent-all _ _ _ _ _ (start (at .before) .pre) (valid at) _ _ _ (first .set-count .ensures) (c .before .before .set-count2 .ensures) (made .submit .ensures)
     (same-length-4 c) (same-length-5 c) (same-length-6 c)
 
 pub submit-lent-spec : {M : Type 1} → statement M

@@ -9,7 +9,7 @@ use Rattle.definition.specs.Session.{session, surfaceCount}
 use Rattle.definition.specs.Calls.{Call, pass, submit, Answer, checked, submitted}
 use Rattle.lists.specs.Lists.{countIn, surfacesIn}
 use Rattle.buffer_validation.specs.Buffers.{Buffers, tooShort}
-use Rattle.desk.specs.declared.reply.Reply.{Reply}
+use Rattle.render_pass.specs.declared.Reply.{Reply}
 use Rattle.desk.specs.Promise.{PassPromise, SubmitPromise}
 
 -- ── where a run starts

@@ -1,11 +1,11 @@
 -- The row starts where the definition's does, and the field stands at its place there.
-use Rattle.definition.specs.Session.{session}
+use Rattle.session.specs.Rows.{passIn}
 use borrow.Author.Needs.{needs}
 use Rattle.session.proofs.depth_stencil.Statement.{statement}
 use Rattle.session.proofs.depth_stencil.Tie as tie
 
 returns : tie.Need-returns
-unfolding session
+unfolding passIn
 returns c = simp (c .u32-at .ensures, c .before .pass-at .ensures .0)
 
 pub depth-stencil-spec : {M : Type 1} → statement M

@@ -1,11 +1,11 @@
 -- Each field is the definition's number at its place in the row.
-use Rattle.definition.specs.Session.{session}
+use Rattle.session.specs.Rows.{passIn}
 use borrow.Author.Needs.{needs}
 use Rattle.session.proofs.slot.Statement.{statement}
 use Rattle.session.proofs.slot.Tie as tie
 
 returns : tie.Need-returns
-unfolding session
+unfolding passIn
 returns c =
     let row = c .before in
     simp (c .color-at .ensures, row .eight-at .ensures, row .before .slot-at .ensures .0)

@@ -1,11 +1,11 @@
 -- The slot starts where the definition's does, with its view.
-use Rattle.definition.specs.Session.{session}
+use Rattle.session.specs.Rows.{passIn}
 use borrow.Author.Needs.{needs}
 use Rattle.session.proofs.slot_view.Statement.{statement}
 use Rattle.session.proofs.slot_view.Tie as tie
 
 returns : tie.Need-returns
-unfolding session
+unfolding passIn
 returns c = simp (c .u32-at .ensures, c .before .slot-at .ensures .0)
 
 pub slot-view-spec : {M : Type 1} → statement M

@@ -35,8 +35,8 @@ loop-again c =
     let at = judged .before .before .before in
     let start = at .before .before in
     let row = view-own _ _ (at .loop .k - 1) (judged .before .view-inside .ensures) (start .pre .0) in
-    let right = sym (ap (viewValid _) row) ∙ sym (judged .view-valid .ensures) ∙ not-false _ (c .if1 .left) in
-    (at .loop .inv .0 ∙ last-read _ (at .loop .k) (omega arith) right, omega arith)
+    let valid = sym (ap (viewValid _) row) ∙ sym (judged .view-valid .ensures) ∙ not-false _ (c .if1 .left) in
+    (at .loop .inv .0 ∙ last-read _ (at .loop .k) (omega arith) valid, omega arith)
 
 returns-2 : tie.Need-returns-2 Inv-loop μ-loop
 returns-2 c =

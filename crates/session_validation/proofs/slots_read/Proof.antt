@@ -6,11 +6,13 @@ use native.Mathlib.Numerals.{add-one}
 use borrow.Author.Needs.{needs}
 use Rattle.definition.specs.Readable.{slotsRead}
 use Rattle.definition.specs.Session.{session}
+use Rattle.session.specs.Rows.{passIn}
+use Rattle.session.proofs.Rows.{without-reads}
 use Rattle.session_validation.proofs.slots_read.Statement.{statement}
 use Rattle.session_validation.proofs.slots_read.Tie as tie
 
 abbrev Inv-loop : tie.InvT-loop
-Inv-loop s pass n all₀ k₀ all k = (all ≡ slotsRead (session s) (session s .pass pass) k) × (k ≤ n)
+Inv-loop s pass n all₀ k₀ all k = (all ≡ slotsRead (session s) (passIn s pass) k) × (k ≤ n)
 
 abbrev μ-loop : tie.MeasureT-loop
 μ-loop s pass n all₀ k₀ all k = n - k
@@ -21,7 +23,7 @@ loop-holds c = (refl, omega arith)
 
 loop-again : tie.Need-loop-again Inv-loop μ-loop
 unfolding slotsRead
-loop-again c = (rw add-one (simp (c .slot-reads .ensures, c .before .slot .ensures, c .before .before .before .loop .inv .0)), omega arith)
+loop-again c = (rw add-one (simp (c .slot-reads .ensures, c .before .slot-without-clear .ensures, without-reads, c .before .before .before .loop .inv .0)), omega arith)
 
 returns : tie.Need-returns Inv-loop μ-loop
 returns c =

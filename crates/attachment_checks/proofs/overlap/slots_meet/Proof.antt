@@ -3,10 +3,7 @@ use mathlib.Core.Path.{_≡_, sym}
 use Prim.Native.Nat.{_≤_, _-_}
 use native.Mathlib.Omega.{arith}
 use borrow.Author.Needs.{needs}
-use denote.Ref.{now}
-use Rattle.definition.specs.Session.{session}
 use Rattle.definition.specs.Surfaces.{layersOf, meets}
-use Rattle.definition.specs.declared.Slot.{Slot}
 use Rattle.attachment_checks.specs.Taken.{takenIn}
 use Rattle.laws.proofs.Overlap.{meets-nil, meets-append}
 use Rattle.laws.proofs.Folds.{taken-none, taken-turn}
@@ -24,15 +21,14 @@ loop-holds c = (simp taken-none (sym (meets-nil (layersOf (c .before .before .ar
 
 loop-again : tie.Need-loop-again Inv-loop μ-loop
 loop-again c =
-    let args = c .before .before .before .before .before .before .args in
-    let range = layersOf (args .a) in
-    let x : Slot = session (now (args .s)) .pass (args .pass) .slot (c .before .before .before .loop .j) in (
+    let args = c .before .before .before .before .before .before .args in (
       simp (
-        c .slot-meets .ensures x (c .before .slot-views .ensures),
+        c .slot-meets .ensures,
+        c .before .slot-without-clear .ensures,
         c .before .before .before .loop .inv .0,
         taken-turn,
       )
-          (sym (meets-append range _ _)),
+          (sym (meets-append (layersOf (args .a)) _ _)),
       omega arith,
     )
 

@@ -8,13 +8,7 @@ use Rattle.attachment_checks.proofs.views.see_view.Tie as tie
 returns : tie.Need-returns
 unfolding seeView
 returns c =
-    let c4 = c .before .before .before .before in
-    simp (
-      c .samples-of .ensures,
-      c .before .height-of .ensures,
-      c .before .before .width-of .ensures,
-      sym (c4 .is-first .ensures) ∙ c .before .before .before .if1 .taken,
-    )
+    simp (c .extent-of .ensures, sym (c .before .before .is-first .ensures) ∙ c .before .if1 .taken)
 
 returns-2 : tie.Need-returns-2
 unfolding seeView
@@ -24,8 +18,6 @@ pub see-view-spec : {M : Type 1} → statement M
 see-view-spec =
     tie.close
     (tie.spec
-    (λ c κs. search needs)
-    (λ c κs. search needs)
     (λ c κs. search needs)
     (λ c κs. search needs)
     returns

@@ -1,0 +1,125 @@
+-- The invariant: the records are those before the loop, then those of the attachments of the first k slots.
+use mathlib.Core.Path.{_≡_, refl, sym, ap, _∙_}
+use mathlib.Core.Logic.{⊎-elim}
+use mathlib.Core.Bool.{not, _&&_}
+use native.Mathlib.Omega.{arith}
+use Prim.Native.Nat.{_+_, _*_, _≤_, _<_, _-_}
+use mathlib.Core.List.{List, _++_, append-nil}
+use borrow.Author.Needs.{needs}
+use Rattle.definition.specs.Sizes.{maxAttachments}
+use Rattle.definition.specs.Session.{session, isNone, sliceRange}
+use Rattle.definition.specs.Attachments.{Attached, depthStencilPart, slotParts, colorOf, resolveTo}
+use Rattle.definition.specs.Pass.{attachmentReply}
+use Rattle.definition.specs.declared.Attachment.{Attachment}
+use Rattle.session.specs.Rows.{passIn}
+use Rattle.attachments.proofs.Resolving.{Filled, PutColor, PutTarget, put, kept, put-count, first-present, first-absent, slot-turn, all-replied}
+use Rattle.attachments.proofs.resolve.replies_of.Statement.{statement}
+use Rattle.attachments.proofs.resolve.replies_of.Tie as tie
+
+abbrev Inv-loop : tie.InvT-loop
+Inv-loop s pass n records₀ count₀ k₀ records count k =
+    ((start : List Attachment) (xs : List Attached) → Filled (λ a. a) (attachmentReply (session s)) start records₀ count₀ xs → Filled (λ a. a) (attachmentReply (session s)) start records count (xs ++ slotParts (session s) (passIn s pass) k))
+    × (count₀ ≤ 1) × (count ≤ count₀ + 2 * k) × (k ≤ n)
+
+abbrev μ-loop : tie.MeasureT-loop
+μ-loop s pass n records₀ count₀ k₀ records count k = n - k
+
+-- The colour of a slot that is not empty.
+colored : (c : tie.Joined2 Inv-loop μ-loop)
+    → let at = c .before .before .before .before in
+    let args = at .before .before .before .before .args in
+    PutColor (λ a. a) (attachmentReply (session (args .s .now))) (session (args .s .now)) (passIn (args .s .now) (args .pass) .slot (at .loop .k)) (at .loop .records) (at .loop .count) (c .if2 .records) (c .if2 .count)
+colored c =
+    let test = c .before in
+    let row = test .before .slot .ensures in
+    let S = session (test .before .before .before .before .before .before .before .args .s .now) in
+    let told = sym (ap (λ q. not (isNone (q .view))) row) ∙ sym (test .occupied .ensures) in
+    ⊎-elim
+    (λ w. put _ (told ∙ w .0 .taken) (w .2 .ensures S ∙ ap (λ q. attachmentReply S (colorOf S q)) row) (w .3) (w .4))
+    (λ w. kept (told ∙ w .0 .left) (w .1) (w .2))
+    (c .if2 .came)
+
+-- Its resolve target, where it has one.
+resolved : (c : tie.Joined3 Inv-loop μ-loop)
+    → let at = c .before .before in
+    let loop = at .before .before .before .before in
+    let args = loop .before .before .before .before .args in
+    PutTarget (λ a. a) (attachmentReply (session (args .s .now))) (session (args .s .now)) (passIn (args .s .now) (args .pass) .slot (loop .loop .k)) (at .if2 .records) (at .if2 .count) (c .if3 .records) (c .if3 .count)
+resolved c =
+    let test = c .before in
+    let read = test .before .before .before in
+    let row = read .slot .ensures in
+    let S = session (read .before .before .before .before .before .before .args .s .now) in
+    let told = sym (ap (λ q. not (isNone (q .view)) && not (isNone (q .resolve))) row) ∙ sym (test .resolves .ensures) in
+    ⊎-elim
+    (λ w. put _ (told ∙ w .0 .taken) (w .2 .ensures S (sliceRange (S .view (read .slot .result .resolve)) 0) ∙ ap (λ q. attachmentReply S (resolveTo (q .resolve) (sliceRange (S .view (q .resolve)) 0))) row) (w .3) (w .4))
+    (λ w. kept (told ∙ w .0 .left) (w .1) (w .2))
+    (c .if3 .came)
+
+-- There is a place for each.
+place : (c : tie.At-loop Inv-loop μ-loop) → c .loop .k < c .before .before .before .before .args .n → c .loop .count + 1 < maxAttachments
+place c more = omega (arith, c .loop .inv .1, c .loop .inv .2, c .before .before .before .before .pre .1)
+
+fits : (c : tie.Joined2 Inv-loop μ-loop) → c .if2 .count < maxAttachments
+fits c = omega (arith, put-count _ _ (colored c), place (c .before .before .before .before) (c .before .before .before .loop-test .taken))
+
+loop-holds : tie.Need-loop-holds Inv-loop μ-loop
+unfolding slotParts
+loop-holds c = (
+  λ start xs f. simp append-nil f,
+  ⊎-elim (λ w. omega (arith, w .3)) (λ w. omega (arith, w .2)) (c .if1 .came),
+  omega arith,
+  omega arith,
+)
+
+loop-again : tie.Need-loop-again Inv-loop μ-loop
+loop-again c =
+    let color = c .before .before in
+    let read = color .before .before in
+    let loop = read .before .before in (
+      λ start xs f. slot-turn _ _ _ _ (loop .loop .k) xs (place loop (read .before .loop-test .taken)) (colored color) (resolved c) (loop .loop .inv .0 start xs f),
+      loop .loop .inv .1,
+      omega (arith, put-count _ _ (colored color), put-count _ _ (resolved c), loop .loop .inv .2),
+      omega (arith, read .before .loop-test .taken),
+    )
+
+returns : tie.Need-returns Inv-loop μ-loop
+returns c =
+    let loop = c .before in
+    let join = loop .before in
+    let start = join .before .before .before in
+    let S = session (start .args .s .now) in
+    let p = passIn (start .args .s .now) (start .args .pass) in
+    let e : loop .loop .k ≡ start .args .n = omega (arith, loop .loop .inv .3, c .loop-test .left) in
+    let few : loop .loop .count ≤ maxAttachments = omega (arith, loop .loop .inv .1, loop .loop .inv .2, start .pre .1) in
+    simp e at (all-replied (attachmentReply S) few (loop .loop .inv .0 _ _ (
+    ⊎-elim
+    (λ w. first-present (λ a. a) (attachmentReply S) S (start .args .d .reply) (λ x a. a .reply) (depthStencilPart S p) (start .pre .0) (w .0 .taken) (w .2) (w .3) refl)
+    (λ w. first-absent (λ a. a) (attachmentReply S) S (depthStencilPart S p) (start .pre .0) (w .0 .left) (w .1) (w .2) refl)
+    (join .if1 .came)
+    )) (simp (join .before .empty-reply .ensures)))
+
+pub replies-of-spec : {M : Type 1} → statement M
+replies-of-spec =
+    tie.close
+    (tie.spec
+    Inv-loop
+    μ-loop
+    (λ c κs. search needs)
+    (λ c. omega arith)
+    loop-holds
+    (λ c κs. search needs)
+    (λ c κs. search needs)
+    (λ c κs. search needs)
+    (λ c. omega (arith, place (c .before .before .before .before .before .before) (c .before .before .before .before .before .loop-test .taken)))
+    (λ c. omega (arith, place (c .before .before .before .before .before .before) (c .before .before .before .before .before .loop-test .taken)))
+    (λ c. omega (arith, place (c .before .before .before .before .before .before) (c .before .before .before .before .before .loop-test .taken)))
+    (λ c κs. search needs)
+    (λ c κs. search needs)
+    (λ c. omega (arith, fits (c .before .before .before .before)))
+    (λ c. omega (arith, fits (c .before .before .before .before)))
+    (λ c. omega (arith, fits (c .before .before .before .before)))
+    (λ c. omega arith)
+    (λ c. omega arith)
+    loop-again
+    returns)
