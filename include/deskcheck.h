@@ -18,7 +18,7 @@
  * - Calls may run on several threads at once, unless one of them writes what another is handed. Two
  *   threads may read one session.
  * - DESKCHECK_STACK_LEN bytes of stack are enough. Measured on x86-64, with a caller's frame that has
- *   room for a reply: about 5.7 KiB for deskcheck_pass, 5.6 for deskcheck_session, 1.9 for
+ *   room for a reply: about 5.5 KiB for deskcheck_pass, 4.4 for deskcheck_session, 1.9 for
  *   deskcheck_submit, 1.3 for deskcheck_surface_index, 1.1 for deskcheck_session_refusal.
  *
  * harness/c/calls.c tries the last two, NULL and the indices of surfaces, and prints the bytes of stack

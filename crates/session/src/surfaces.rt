@@ -1,4 +1,4 @@
-// Surfaces counted, where one stands among those of its texture, and where a range of mips or layers ends. Counting has an answer for every byte
+// Surfaces counted, where one stands among those of its texture, and whether a range of mips or layers is a part. Counting has an answer for every byte
 // string and every number: it stops at one past the most surfaces that a session has.
 use crate::derived::TEXTURE_D3;
 use crate::derived::array_layers;
