@@ -121,7 +121,7 @@ slot-turn get of S p k {start} {es} {es₁} {es₂} {n} {n₁} {n₂} xs room co
 
 -- As plans.
 pub all-planned : {start ps : List Planned} {n : ℕ} {xs : List Attached} → n ≤ maxAttachments → Filled planIn planOf start ps n xs → PlansOf xs (record { planned = ps; count = n })
-all-planned few f = record { plans = f .entries; whole = record { planned = f .long; count = few }; few = omega (arith, few, f .count) }
+all-planned few f = record { plans = f .entries; whole = record { planned = f .long; count = few } }
 
 -- Blank records past those of a list.
 padded-past : (n : ℕ) (es : List Attachment) → length es ≤ n → es ++ drop (length es) (padded n []) ≡ padded n es

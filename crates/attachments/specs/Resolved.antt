@@ -1,5 +1,5 @@
 -- The attachments of a pass: what they do to the lists, and what the reply says of them.
-use Prim.Native.Nat.{ℕ, zero, suc, _≤_}
+use Prim.Native.Nat.{ℕ, zero, suc}
 use mathlib.Core.Path.{_≡_}
 use mathlib.Core.List.{List, [], _∷_, map}
 use lib.ListN.{length}
@@ -26,4 +26,3 @@ listed xs = record { records = padded maxAttachments xs; count = length xs }
 pub record PlansOf (xs : List Attached) (ps : Plans) : Type 0 where
   pub plans : plansIn ps ≡ map planOf xs
   pub whole : Whole ps
-  pub few : length xs ≤ maxAttachments
