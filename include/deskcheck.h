@@ -141,6 +141,10 @@ extern "C" {
  * 3D texture and the slice of another are 0. An action is about its slice in each of its mips, and so
  * its slice is below the depth of its last mip.
  *
+ * A discarded view is listed with an entry for each of its layers, lowest first, whatever the mask. They
+ * are listed together: 49 is answered where one of them does not fit. Two views of 32 layers fill the list.
+ * The clears of a load come in the list's order.
+ *
  * With L layers (1 of a 3D texture) and S(m) slices of mip m (max(1, depth >> m) of a 3D texture, else 1),
  * the byte of a surface has the index
  *
@@ -180,8 +184,9 @@ extern "C" {
  * No unwritten or discarded memory becomes visible (docs/THEOREM.md) in a run of deskcheck_pass and
  * deskcheck_submit, in any order, accepted or refused, where
  *
- * - the session is readable (deskcheck_session_refusal answers 0) and strict (flag 1), and every view has
- *   one layer;
+ * - the session is readable (deskcheck_session_refusal answers 0) and strict (flag 1);
+ * - each accepted pass that uses a view of several layers has a mask that names all of them. A mask of 0 is
+ *   none, and names none;
  * - the buffers of the first call are fresh: long enough, counts 0, and status byte 0 for each surface of
  *   the session (what stands behind the last surface's byte may be anything);
  * - every call is handed that session, and each call after the first the buffers as the call before it
@@ -189,7 +194,7 @@ extern "C" {
  * - the box does what it is told: at a submission it zeroes each surface whose status byte then has 2,
  *   and runs the passes accepted since the submission before, in order. Each pass zeroes its reply's
  *   clears first, and its divergent aspect afterwards. A D3 attachment is one slice, which the pass row
- *   names.
+ *   names. Of a view of several layers a pass draws those that its mask names.
  */
 
 /* A colour clear value. A NaN comes back as the canonical one, every other number bit for bit. */

@@ -174,6 +174,10 @@ fullOf actions = record {
   clears = [];
 }
 
+-- So many discards of texture 2.
+abbrev holding : ℕ → Lists
+holding n = record { discards = replicate n (surfaceAt 2 0 0 0); actions = []; clears = [] }
+
 abbrev accepted : ℕ → ℕ → List ℕ
 accepted clears discards = 0 ∷ 17 ∷ 17 ∷ clears ∷ discards ∷ 0 ∷ []
 
@@ -188,9 +192,9 @@ refused number place earlier = number ∷ place ∷ earlier ∷ 0 ∷ 0 ∷ 0 �
 abbrev refusedChannel : ℕ → List ℕ
 refusedChannel number = refused number 16 17
 
--- With 64 discards held.
-abbrev noRoom : ℕ → List ℕ
-noRoom number = number ∷ 17 ∷ 17 ∷ 0 ∷ 64 ∷ 0 ∷ []
+-- With so many discards held.
+abbrev noRoom : ℕ → ℕ → List ℕ
+noRoom number held = number ∷ 17 ∷ 17 ∷ 0 ∷ held ∷ 0 ∷ []
 
 -- Clear with Discard, Load with Store, Clear with Store.
 abbrev dropped : Pass
@@ -201,6 +205,10 @@ loaded = colors (slot 0 noView 0 0 ∷ [])
 
 abbrev cleared : Pass
 cleared = colors (slot 0 noView 1 0 ∷ [])
+
+-- The two layers of view 7, by a mask, a load and a store.
+abbrev stereo : ℕ → ℕ → ℕ → Pass
+stereo mask load store = pass mask (slot 7 noView load store ∷ []) noView absent absent
 
 abbrev depthCleared : ℕ → Pass
 depthCleared bits = depthOf (channel 1 0 1 bits)
@@ -228,11 +236,13 @@ rows =
     ∷ row (colors (slice 3 ∷ []) ∷ []) (accepted 0 0 ∷ [])
     ∷ row (colors (slice 4 ∷ []) ∷ []) (refused 38 0 17 ∷ [])
     -- P: two layers, mask 3 accepted, 4 gives 31
-    ∷ row (pass 3 (slot 7 noView 1 0 ∷ []) noView absent absent ∷ []) (accepted 0 0 ∷ [])
-    ∷ row (pass 4 (slot 7 noView 1 0 ∷ []) noView absent absent ∷ []) (refused 31 17 17 ∷ [])
+    ∷ row (stereo 3 1 0 ∷ []) (accepted 0 0 ∷ [])
+    ∷ row (stereo 4 1 0 ∷ []) (refused 31 17 17 ∷ [])
     -- P: discard, then load: one clear; discarded twice: two
     ∷ row (dropped ∷ loaded ∷ []) (accepted 0 1 ∷ accepted 1 0 ∷ [])
     ∷ row (dropped ∷ dropped ∷ loaded ∷ []) (accepted 0 1 ∷ accepted 0 2 ∷ accepted 2 0 ∷ [])
+    -- two layers: a discard lists both and a load returns both, whatever the masks
+    ∷ row (stereo 3 1 1 ∷ stereo 3 0 0 ∷ stereo 1 1 1 ∷ stereo 0 0 0 ∷ []) (accepted 0 2 ∷ accepted 2 0 ∷ accepted 0 2 ∷ accepted 2 0 ∷ [])
     -- P: Clear with Store after a discard: none
     ∷ row (dropped ∷ cleared ∷ []) (accepted 0 1 ∷ accepted 0 0 ∷ [])
     -- P: depth Load, stencil Clear, both Discard: one entry
@@ -281,18 +291,21 @@ rows =
     ∷ rowOf (check (colors (slot 0 noView 0 1 ∷ slot 1 noView 1 0 ∷ [])) ∷ submit ∷ check cleared ∷ submit ∷ [])
     (accepted 0 1 ∷ (2 ∷ 1 ∷ 0 ∷ 0 ∷ 0 ∷ 0 ∷ []) ∷ accepted 0 0 ∷ (1 ∷ 1 ∷ 0 ∷ 0 ∷ 0 ∷ 0 ∷ []) ∷ [])
     -- 49 looks at every step: of 64 discards eight are texture 0's. A new one first needs a 65th; after those eight have left, it leaves 57
-    ∷ rowFrom (fullOf 0) (colors (slot 1 noView 1 1 ∷ slot 0 noView 1 0 ∷ []) ∷ []) (noRoom 49 ∷ [])
+    ∷ rowFrom (fullOf 0) (colors (slot 1 noView 1 1 ∷ slot 0 noView 1 0 ∷ []) ∷ []) (noRoom 49 64 ∷ [])
     ∷ rowFrom (fullOf 0) (colors (slot 0 noView 1 0 ∷ slot 1 noView 1 1 ∷ []) ∷ []) (accepted 0 57 ∷ [])
+    -- it takes the layers of a view together: two after 62 are 64, and after 63 a 49
+    ∷ rowFrom (holding 62) (stereo 3 1 1 ∷ []) (accepted 0 64 ∷ [])
+    ∷ rowFrom (holding 63) (stereo 3 1 1 ∷ stereo 3 1 0 ∷ []) (noRoom 49 63 ∷ accepted 0 63 ∷ [])
     -- Load with Discard takes its own off first: eight clears, and 57 again
     ∷ rowFrom (fullOf 0) (colors (slot 0 noView 0 1 ∷ []) ∷ []) (accepted 8 57 ∷ [])
     -- 50: a load takes one action and one for each clear; 503 and 1 and 8 are 512
     ∷ rowFrom (fullOf 503) (loaded ∷ []) (accepted 8 56 ∷ [])
-    ∷ rowFrom (fullOf 504) (loaded ∷ []) (noRoom 50 ∷ [])
+    ∷ rowFrom (fullOf 504) (loaded ∷ []) (noRoom 50 64 ∷ [])
     -- 512 actions held: any action more is a 50
-    ∷ rowFrom (fullOf 512) (colors (slot 0 noView 1 0 ∷ []) ∷ []) (noRoom 50 ∷ [])
-    ∷ rowFrom (fullOf 512) (colors (slot 7 noView 0 0 ∷ []) ∷ colors (slot 2 noView 0 0 ∷ []) ∷ []) (noRoom 50 ∷ noRoom 50 ∷ [])
+    ∷ rowFrom (fullOf 512) (colors (slot 0 noView 1 0 ∷ []) ∷ []) (noRoom 50 64 ∷ [])
+    ∷ rowFrom (fullOf 512) (colors (slot 7 noView 0 0 ∷ []) ∷ colors (slot 2 noView 0 0 ∷ []) ∷ []) (noRoom 50 64 ∷ noRoom 50 64 ∷ [])
     -- 49 before 50, wherever they happen: slot 0 needs a 513th action and slot 1 a 65th discard; one slot needs both
-    ∷ rowFrom (fullOf 512) (colors (slot 1 noView 0 0 ∷ slot 0 noView 1 1 ∷ []) ∷ colors (slot 1 noView 0 1 ∷ []) ∷ []) (noRoom 49 ∷ noRoom 49 ∷ [])
+    ∷ rowFrom (fullOf 512) (colors (slot 1 noView 0 0 ∷ slot 0 noView 1 1 ∷ []) ∷ colors (slot 1 noView 0 1 ∷ []) ∷ []) (noRoom 49 64 ∷ noRoom 49 64 ∷ [])
     ∷ []
 
 -- ── the test

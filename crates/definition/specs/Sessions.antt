@@ -170,6 +170,20 @@ slices-apart : deskcheck (file 8 0 1 (texture 3 3 4 4 2 1 16 ∷ []) (view 0 6 1
 unfolding computing
 slices-apart = refl
 
+-- Every layer of a discarded view is listed, lowest first. Of layers 1 and 2 of a texture: a colour discarded under mask 3; both aspects discarded; depth discarded
+-- and stencil stored, which lists nothing.
+layers-listed :
+    (let S = session (file 8 2 7 (texture 3 2 4 3 1 1 16 ∷ texture 23 2 4 3 1 1 16 ∷ [])
+    ((0 ∷ 3 ∷ 0 ∷ 1 ∷ 1 ∷ 2 ∷ 16 ∷ 0 ∷ []) ∷ (1 ∷ 3 ∷ 0 ∷ 1 ∷ 1 ∷ 2 ∷ 16 ∷ 0 ∷ []) ∷ [])
+    (passOf 3 0 noView absent absent (slot 0 1 1 ∷ [])
+    ∷ passOf 0 0 1 (channel 1 1 0 1 0) (channel 1 1 0 1 0) []
+    ∷ passOf 0 0 1 (channel 1 1 0 1 0) (channel 1 0 0 1 0) []
+    ∷ [])) in
+    map (λ k. passCall S k noEntries .lists .discards) (0 ∷ 1 ∷ 2 ∷ []))
+    ≡ ((surfaceAt 0 0 1 0 ∷ surfaceAt 0 0 2 0 ∷ []) ∷ (surfaceAt 1 0 1 0 ∷ surfaceAt 1 0 2 0 ∷ []) ∷ [] ∷ [])
+unfolding computing
+layers-listed = refl
+
 -- Surfaces count slices: a 3D texture of 32 slices and 15 mips has 32 + 16 + 8 + 4 + 2 and ten times 1, 72 in all; a D2 texture of one layer has one.
 slices-counted : surfaceCount (session (file 8 0 0 (texture 3 3 4 32 15 1 16 ∷ plain ∷ []) [] [])) ≡ 73
 unfolding computing

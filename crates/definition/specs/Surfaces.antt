@@ -24,16 +24,9 @@ unfoldable pub hits : Range → Surface → Bool
 hits r s =
     eqb (s .texture) (r .texture) && within (r .mip) (r .mips) (s .mip) && eqb (s .slice) (r .slice) && within (r .layer) (r .layers) (s .layer)
 
-abbrev pub firstOf : Range → Surface
-firstOf r = surfaceAt (r .texture) (r .mip) (r .layer) (r .slice)
-
 -- One surface as a range.
 abbrev pub onlyRange : Surface → Range
 onlyRange s = rangeAt (s .texture) (s .mip) 1 (s .layer) 1 (s .slice)
-
--- What a discard of the range names: its first mip and layer, at its slice.
-abbrev pub named : Range → List Surface
-named r = firstOf r ∷ []
 
 -- The layers of slice k of a mip, from layer l, n to go.
 abbrev pub layersFrom : ℕ → ℕ → ℕ → ℕ → ℕ → List Surface
@@ -43,6 +36,10 @@ layersFrom t m k l (suc n) = surfaceAt t m l k ∷ layersFrom t m k (l + 1) n
 -- The surfaces of the range's first mip, lowest layer first.
 abbrev pub layersOf : Range → List Surface
 layersOf r = layersFrom (r .texture) (r .mip) (r .slice) (r .layer) (r .layers)
+
+-- What a discard of the range names: each layer of its first mip, lowest first.
+abbrev pub named : Range → List Surface
+named r = layersOf r
 
 -- The list has the surface; two lists have one in common.
 abbrev pub elem : Surface → List Surface → Bool

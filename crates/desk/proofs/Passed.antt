@@ -74,6 +74,7 @@ module _ (s : List ℕ) (i : ℕ) (b : Buffers) (r : Reply) where
 -- What is lent and valid can be checked.
 pub valid-checkable : (s : List ℕ) (b : Buffers) → Opened s b → lentValid (session s) (heldIn b) ≡ true → Checkable (session s) (b .lists)
 valid-checkable s b o h = record {
+  textures = tested s (o .readable) .textures;
   views = tested s (o .readable) .views;
   long = long-of b (o .long);
   fits = valid-fits (session s) (heldIn b) h;

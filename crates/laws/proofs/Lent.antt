@@ -3,8 +3,8 @@ use mathlib.Core.Path.{_≡_, refl, sym, ap, subst, _∙_}
 use mathlib.Core.Bool.{Bool, true, false, _&&_, cond, and-assoc}
 use mathlib.Core.List.{List, [], _∷_, _++_, map}
 use native.Mathlib.Omega.{arith}
-use Prim.Native.Nat.{_+_, _-_, _<_}
-use Rattle.definition.specs.Surfaces.{firstOf, onlyRange}
+use Prim.Native.Nat.{ℕ, zero, suc, _+_, _-_, _<_}
+use Rattle.definition.specs.Surfaces.{surfaceAt, onlyRange, layersFrom, layersOf}
 use Rattle.definition.specs.Session.{Session, slicesIn}
 use Rattle.definition.specs.MemoryInit.{implicitAt, retain}
 use Rattle.definition.specs.Calls.{surfaceValid, rangeValid, surfacesValid, actionsValid}
@@ -14,7 +14,7 @@ use Rattle.definition.specs.declared.Action.{Action}
 use Rattle.laws.specs.Surfaces.{Inside}
 use Rattle.laws.proofs.Tests.{and-left, and-right, and-on}
 use Rattle.laws.proofs.Surfaces.{surface-inside, inside-surface, range-inside, inside-range}
-use Rattle.laws.proofs.Views.{range-first}
+use Rattle.laws.proofs.Views.{range-layer}
 
 module _ (S : Session) where
   -- Records of two lists.
@@ -48,8 +48,17 @@ module _ (S : Session) where
         slice = subst (λ m. s .slice < slicesIn (S .texture (s .texture)) m) (let e : s .mip ≡ s .mip + 1 - 1 = omega arith in e) (i .slice);
       })
 
-  pub first-valid : (r : Range) → rangeValid S r ≡ true → surfaceValid S (firstOf r) ≡ true
-  first-valid r h = inside-surface S (firstOf r) (range-first S r (range-inside S r h))
+  -- The layers of a range, which a discard of it lists.
+  layers-from : (t m k l n : ℕ) → ((i : ℕ) → i < l + n → surfaceValid S (surfaceAt t m i k) ≡ true) → surfacesValid S (layersFrom t m k l n) ≡ true
+  layers-from t m k l zero h = refl
+  layers-from t m k l (suc n) h =
+      and-on (surfaceValid S (surfaceAt t m l k)) (surfacesValid S (layersFrom t m k (l + 1) n)) (h l (omega arith))
+      (layers-from t m k (l + 1) n (λ i g. h i (omega (arith, g))))
+
+  pub layers-valid : (r : Range) → rangeValid S r ≡ true → surfacesValid S (layersOf r) ≡ true
+  layers-valid r h =
+      layers-from (r .texture) (r .mip) (r .slice) (r .layer) (r .layers)
+      (λ i g. inside-surface S (surfaceAt (r .texture) (r .mip) i (r .slice)) (range-layer S r (range-inside S r h) i g))
 
   -- The implicit actions of clears.
   pub implicits-valid : (d : List Surface) → surfacesValid S d ≡ true → actionsValid S (map implicitAt d) ≡ true

@@ -3,10 +3,10 @@ use mathlib.Core.Path.{_≡_, refl, sym, ap, ap₂, _∙_}
 use mathlib.Core.Bool.{Bool, true, false, not, _&&_, cond}
 use mathlib.Core.List.{List, [], _∷_, _++_, map, append-assoc, append-nil}
 use mathlib.Core.Option.{Option, none, some}
-use Prim.Native.Nat.{ℕ, _+_, _-_, _≤_}
+use Prim.Native.Nat.{ℕ, zero, suc, _+_, _-_, _≤_}
 use native.Mathlib.Omega.{arith}
 use lib.Dec.{leb}
-use lib.ListN.{length, length-append}
+use lib.ListN.{length, drop, length-append}
 use borrow.Author.Tests.{leb-true}
 use Rattle.definition.specs.Sizes.{maxDiscards, maxActions}
 use Rattle.definition.specs.Surfaces.{hits, named, elem}
@@ -19,7 +19,7 @@ use Rattle.definition.specs.declared.Range.{Range}
 use Rattle.definition.specs.declared.MemoryInitKind.{MemoryInitKind}
 use Rattle.definition.specs.declared.MemoryInitKind.the-variants.{ImplicitlyInitialized, NeedsInitializedMemory}
 use Rattle.laws.specs.Separate.{reaches, reached, Separate}
-use Rattle.laws.specs.Plans.{Plan, planOf, actionOf, leavingBy, stayingBy, returnedBy, addedBy, listedBy, leavingAll, stayingAll, returnedAll, addedAll, listedAll, together, heldAfter, stepsFit}
+use Rattle.laws.specs.Plans.{Plan, planOf, actionOf, leavingBy, stayingBy, returnedBy, addedBy, listedBy, leavingAll, stayingAll, returnedAll, addedAll, listedAll, together, heldAfter, stepsFit, Layered}
 use Rattle.laws.proofs.Tests.{and-left, and-right, clash, or-off-left, or-off-right}
 use Rattle.laws.proofs.Surfaces.{retain-none}
 use Rattle.laws.proofs.Lists.{retain-append, matching-others}
@@ -347,6 +347,14 @@ none-implicit [] d h = refl
 none-implicit (p ∷ ps) d h =
     ap₂ _++_ (none-implicit-by (p .kind) (p .range) d (none-first (leavingBy (p .kind) (p .range) d) (leavingAll ps d) h))
     (none-implicit ps d (none-second (leavingBy (p .kind) (p .range) d) (leavingAll ps d) h))
+
+-- ── layers
+
+-- Those of the plans that are left.
+pub layered-drop : (ps : List Plan) → Layered ps → (i : ℕ) → Layered (drop i ps)
+layered-drop ps h zero = h
+layered-drop [] h (suc i) = tt
+layered-drop (p ∷ ps) h (suc i) = layered-drop ps (h .1) i
 
 -- ── how many at most
 

@@ -1,16 +1,20 @@
--- A session that is not refused passes the four tests of 1 to 4, and what the second says of each field of the header.
+-- A session that is not refused passes the four tests of 1 to 4, and what the second says of each field of the header; what the third says of layers.
 use mathlib.Core.Path.{_≡_, refl}
-use mathlib.Core.Bool.{Bool, true}
+use mathlib.Core.Bool.{Bool, true, false, _||_, cond}
 use mathlib.Core.List.{List, [], _∷_}
-use Prim.Native.Nat.{ℕ, _≤_}
+use Prim.Native.Nat.{ℕ, _≤_, _<_}
+use native.Mathlib.Omega.{arith}
 use lib.Dec.{leb, eqb}
 use borrow.Author.Tests.{eq-eqb, leb-true, eqb-true}
-use Rattle.definition.specs.Sizes.{headerBytes, maxTextures, maxViews, maxPasses, maxSlots, maxMultiviews, maxFlags, maxColorBytes}
-use Rattle.definition.specs.Session.{session, textureCount, textureOffset, viewCount, viewOffset, passCount, passOffset, maxColors, maxMultiview, flags, colorBytes, totalLength, viewStart, passStart, passEnd}
+use Rattle.definition.specs.Sizes.{headerBytes, maxTextures, maxViews, maxPasses, maxSlots, maxMultiviews, maxFlags, maxColorBytes, maxSize, maxLayers, maxMips, maxUsage, maxSurfaces}
+use Rattle.definition.specs.Formats.{isColor, isFormat}
+use Rattle.definition.specs.Session.{Session, session, arrayLayers, surfaceCount, textureCount, textureOffset, viewCount, viewOffset, passCount, passOffset, maxColors, maxMultiview, flags, colorBytes, totalLength, viewStart, passStart, passEnd}
 use Rattle.definition.specs.Verdict.{nowhere, isAccepted, unless}
-use Rattle.definition.specs.Readable.{between, lengthValid, headerValid, texturesValid, viewsValid, sessionVerdict, sessionRefusal}
+use Rattle.definition.specs.Readable.{between, lengthValid, headerValid, samplesValid, textureValid, texturesRead, texturesValid, viewsValid, sessionVerdict, sessionRefusal}
+use Rattle.definition.specs.declared.Texture.{Texture}
 use Rattle.laws.proofs.Tests.{and-left, and-right}
 use Rattle.laws.proofs.Conjunctions.{each}
+use Rattle.laws.proofs.Folds.{textures-each}
 use Rattle.laws.proofs.Verdicts.{then-left, then-right, unless-on}
 
 pub record Tested (s : List ℕ) : Type 0 where
@@ -36,6 +40,26 @@ tested s h =
 pub within : (low high n : ℕ) → between low high n ≡ true → (low ≤ n) × (n ≤ high)
 unfolding between
 within low high n e = (leb-true low n (and-left (leb low n) (leb n high) e), leb-true n high (and-right (leb low n) (leb n high) e))
+
+-- Where the textures are valid, each has few layers.
+pub few-layers : (S : Session) → texturesValid S ≡ true → (t : ℕ) → t < S .textureCount → arrayLayers (S .texture t) ≤ maxLayers
+unfolding texturesValid textureValid arrayLayers
+few-layers S h t there = go (eqb (x .dimension) 3)
+  where
+    x : Texture
+    x = S .texture t
+
+    tests : List Bool
+    tests =
+        isFormat (x .format) ∷ between 1 3 (x .dimension) ∷ (isColor (x .format) || eqb (x .dimension) 2) ∷ between 1 maxSize (x .width) ∷ between 1 maxSize (x .height)
+        ∷ between 1 maxLayers (x .depth) ∷ between 1 maxMips (x .mips) ∷ samplesValid (x .samples) ∷ leb (x .usage) maxUsage ∷ []
+
+    deep : x .depth ≤ maxLayers
+    deep = within 1 maxLayers (x .depth) (each tests (textures-each S (S .textureCount) (and-left (texturesRead S (S .textureCount)) (leb (surfaceCount S) maxSurfaces) h) t there) 5) .1
+
+    go : (b : Bool) → cond b 1 (x .depth) ≤ maxLayers
+    go true = omega arith
+    go false = deep
 
 -- What a valid header says of the settings and of the rows' ends.
 pub record ValidHeader (s : List ℕ) : Type 0 where

@@ -1,13 +1,13 @@
 -- Laws of surfaces, ranges and lists of surfaces: a range has a surface exactly where three tests on numbers pass.
 use mathlib.Core.Path.{_≡_, refl, sym, ap, ap₂, _∙_}
-use mathlib.Core.Bool.{Bool, true, false, _&&_, _||_, cond, or-assoc, and-false, or-false}
+use mathlib.Core.Bool.{Bool, true, false, _&&_, _||_, cond, or-assoc, and-false}
 use mathlib.Core.List.{List, [], _∷_, _++_}
 use Prim.Native.Nat.{ℕ, zero, suc, _+_, _-_, _≤_, _<_}
 use native.Mathlib.Omega.{arith}
 use lib.Dec.{leb, ltb, eqb}
 use lib.ListN.{length}
 use borrow.Author.Tests.{eqb-true, eqb-false, eq-eqb, ne-eqb, leb-true, leb-false, ltb-true, ltb-false, le-leb, lt-ltb}
-use Rattle.definition.specs.Surfaces.{same, within, hits, firstOf, onlyRange, named, layersFrom, layersOf, elem}
+use Rattle.definition.specs.Surfaces.{same, within, hits, onlyRange, layersFrom, layersOf, elem}
 use Rattle.definition.specs.Session.{Session, arrayLayers, slicesIn}
 use Rattle.definition.specs.MemoryInit.{retain}
 use Rattle.definition.specs.Calls.{surfaceValid, rangeValid}
@@ -94,13 +94,10 @@ hits-in r s h =
       slice = eqb-true (s .slice) (r .slice) (test 2);
     }
 
--- A range of one mip and one layer has its first surface alone; a surface's own range has that surface alone.
-pub hits-one : (r : Range) (s : Surface) → r .mips ≡ 1 → r .layers ≡ 1 → hits r s ≡ same s (firstOf r)
-unfolding hits same
-hits-one r s p q = rw (p, q) (simp within-one)
-
+-- A surface's own range has that surface alone.
 pub hits-only : (t s : Surface) → hits (onlyRange t) s ≡ same s t
-hits-only t s = hits-one (onlyRange t) s refl refl
+unfolding hits same
+hits-only t s = simp within-one
 
 -- ── lists of surfaces
 
@@ -136,6 +133,11 @@ elem-layers t m k l (suc n) s =
     rw (elem-layers t m k (l + 1) n s, within-more l n (s .layer))
     (or-factor (eqb (s .texture) t && eqb (s .mip) m && eqb (s .slice) k) (eqb (s .layer) l) (within (l + 1) n (s .layer)))
 
+-- As many as there are layers.
+pub layers-count : (t m k l n : ℕ) → length (layersFrom t m k l n) ≡ n
+layers-count t m k l zero = refl
+layers-count t m k l (suc n) = ap suc (layers-count t m k (l + 1) n)
+
 -- A range of one mip has the surfaces of its layers.
 pub layers-all : (r : Range) → r .mips ≡ 1 → (s : Surface) → elem s (layersOf r) ≡ hits r s
 unfolding hits
@@ -143,22 +145,6 @@ layers-all r p s =
     elem-layers (r .texture) (r .mip) (r .slice) (r .layer) (r .layers) s
     ∙ ap (λ q. eqb (s .texture) (r .texture) && q && eqb (s .slice) (r .slice) && within (r .layer) (r .layers) (s .layer))
     (sym (ap (λ n. within (r .mip) n (s .mip)) p ∙ within-one (r .mip) (s .mip)))
-
--- What a discard of a range of one mip and one layer names is what the range has.
-pub named-one : (r : Range) → r .mips ≡ 1 → r .layers ≡ 1 → (s : Surface) → elem s (named r) ≡ hits r s
-named-one r p q s = or-false (same s (firstOf r)) ∙ sym (hits-one r s p q)
-
--- A range that is not empty has what a discard of it names.
-pub named-hit : (r : Range) → 1 ≤ r .mips → 1 ≤ r .layers → (s : Surface) → elem s (named r) ≡ true → hits r s ≡ true
-unfolding hits
-named-hit r p q s h =
-    ap (hits r) (same-eq s (firstOf r) (sym (or-false (same s (firstOf r))) ∙ h))
-    ∙ simp (
-      eq-eqb (r .texture) (r .texture) refl,
-      within-on (r .mip) (r .mips) (r .mip) (omega arith) (omega (arith, p)),
-      eq-eqb (r .slice) (r .slice) refl,
-      within-on (r .layer) (r .layers) (r .layer) (omega arith) (omega (arith, q)),
-    )
 
 -- ── surfaces and ranges of a session
 

@@ -9,7 +9,7 @@ use Rattle.definition.specs.Formats.{mipSize}
 use native.Mathlib.Omega.{arith}
 use lib.Dec.{leb, ltb, eqb}
 use borrow.Author.Tests.{eqb-true, leb-true}
-use Rattle.definition.specs.Surfaces.{hits, firstOf}
+use Rattle.definition.specs.Surfaces.{surfaceAt, hits}
 use Rattle.definition.specs.Session.{Session, arrayLayers, slicesIn, viewRange, renderAttachment, isD2, isD2Array, isD3}
 use Rattle.definition.specs.Readable.{between, usageAmong, dimensionFits, formatFits, viewInTexture, viewValid}
 use Rattle.definition.specs.Views.{renderable}
@@ -82,11 +82,12 @@ range-surface S r g s h =
           (omega (arith, i .slice, g .slice, slices-later (S .texture (r .texture)) (s .mip) (r .mip + r .mips - 1) (omega (arith, i .mip-high))));
     }
 
-pub range-first : (S : Session) (r : Range) → RangeInside S r → Inside S (firstOf r)
-range-first S r g = record {
+-- Each layer of a range's first mip is a surface of the session.
+pub range-layer : (S : Session) (r : Range) → RangeInside S r → (l : ℕ) → l < r .layer + r .layers → Inside S (surfaceAt (r .texture) (r .mip) l (r .slice))
+range-layer S r g l h = record {
   texture = g .texture;
   mip = omega (arith, g .some-mip, g .mips);
-  layer = omega (arith, g .some-layer, g .layers);
+  layer = omega (arith, h, g .layers);
   slice = omega (arith, g .slice, slices-later (S .texture (r .texture)) (r .mip) (r .mip + r .mips - 1) (omega (arith, g .some-mip)));
 }
 

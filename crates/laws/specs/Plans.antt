@@ -1,11 +1,11 @@
 -- What attachments do to the lists, as plans; and what plans make of them together, told by the discards as they are found.
-use Prim.Native.Nat.{ℕ, _+_, _-_}
+use Prim.Native.Nat.{ℕ, _+_, _-_, _≤_}
 use mathlib.Core.Bool.{Bool, true, _&&_, cond}
 use mathlib.Core.List.{List, [], _∷_, _++_, map}
 use mathlib.Core.Option.{Option, none, some}
 use lib.Dec.{leb}
 use lib.ListN.{length}
-use Rattle.definition.specs.Sizes.{maxDiscards}
+use Rattle.definition.specs.Sizes.{maxDiscards, maxLayers}
 use Rattle.definition.specs.Surfaces.{named}
 use Rattle.definition.specs.MemoryInit.{Lists, implicitAt, matching, others}
 use Rattle.definition.specs.Attachments.{Attached, rangeIn, kindOf, discards}
@@ -50,7 +50,7 @@ addedBy none r d = []
 addedBy (some ImplicitlyInitialized) r d = actionOf r ImplicitlyInitialized ∷ []
 addedBy (some NeedsInitializedMemory) r d = actionOf r NeedsInitializedMemory ∷ map implicitAt (matching r d)
 
--- The discard that is listed.
+-- The discards that are listed.
 abbrev pub listedBy : Plan → List Surface
 listedBy p = cond (p .discards) (named (p .range)) []
 
@@ -83,6 +83,11 @@ together ps l = record {
   actions = l .actions ++ addedAll ps (l .discards);
   clears = l .clears ++ returnedAll ps (l .discards);
 }
+
+-- No plan has a layer past those that a texture may have.
+abbrev pub Layered : List Plan → Type 0
+Layered [] = Unit {0}
+Layered (p ∷ ps) = (p .range .layer + p .range .layers ≤ maxLayers) × Layered ps
 
 -- ── 49, counted
 

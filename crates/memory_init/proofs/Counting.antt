@@ -8,7 +8,6 @@ use mathlib.Core.Option.{some}
 use lib.Dec.{leb}
 use lib.ListN.{length, drop, length-append, length-map}
 use Rattle.definition.specs.Sizes.{maxDiscards, maxAttachments}
-use Rattle.definition.specs.Surfaces.{named}
 use Rattle.definition.specs.MemoryInit.{retain, implicitAt, matching}
 use Rattle.definition.specs.declared.Surface.{Surface}
 use Rattle.definition.specs.declared.Range.{Range}
@@ -54,13 +53,17 @@ needing-finds {r = r} {d = d} {n = n} told e most =
       most-added = omega arith;
     })
 
+-- A plan lists at most as many as a u32 can say.
+abbrev mostLayers : ℕ
+mostLayers = 4294967295
+
 -- What i of the plans find among the discards d: with the others it is what all find.
 pub record Tallying (ps : List Plan) (d : List Surface) (i held : ℕ) (fits : Bool) (leaving returned added : ℕ) : Type 0 where
   pub every-fits : (fits && stepsFit (drop i ps) held d) ≡ stepsFit ps (length d) d
   pub all-leaving : leaving + length (leavingAll (drop i ps) d) ≡ length (leavingAll ps d)
   pub all-returned : returned + length (returnedAll (drop i ps) d) ≡ length (returnedAll ps d)
   pub all-added : added + length (addedAll (drop i ps) d) ≡ length (addedAll ps d)
-  pub most-held : held ≤ maxDiscards + i
+  pub most-held : held ≤ maxDiscards + mostLayers * i
   pub most-leaving : leaving ≤ maxDiscards * i
   pub most-returned : returned ≤ maxDiscards * i
   pub most-added : added ≤ (maxDiscards + 1) * i
@@ -78,26 +81,18 @@ tally-start ps d held e h = record {
   most-added = omega arith;
 }
 
--- A plan lists one discard or none.
-listed-count : (p : Plan) → length (listedBy p) ≡ cond (p .discards) 1 0
-listed-count p = go (p .discards)
-  where
-    go : (b : Bool) → length (cond b (named (p .range)) []) ≡ cond b 1 0
-    go true = refl
-    go false = refl
-
 -- Entries are counted, and those that are left.
 sum-turn : {A : Type 0} {l : List A} (x rest : List A) (sum k n : ℕ) → l ≡ x ++ rest → sum + length l ≡ n → k ≡ length x → (sum + k) + length rest ≡ n
 sum-turn x rest sum k n e inv h = omega (arith, ap length e, length-append x rest, inv, h)
 
 -- One plan more.
 pub tally-turn : {ps : List Plan} {d : List Surface} {i held : ℕ} {fits : Bool} {leaving returned added : ℕ} → Tallying ps d i held fits leaving returned added
-    → (p : Plan) → drop i ps ≡ p ∷ drop (i + 1) ps → (f : Found) → FoundBy (p .kind) (p .range) d f → (held′ : ℕ) → held′ ≡ held - f .leaving + cond (p .discards) 1 0 → held′ ≤ held + 1
+    → (p : Plan) → drop i ps ≡ p ∷ drop (i + 1) ps → (f : Found) → FoundBy (p .kind) (p .range) d f → (held′ : ℕ) → held′ ≡ held - f .leaving + length (listedBy p) → held′ ≤ held + mostLayers
     → Tallying ps d (i + 1) held′ (fits && leb held′ maxDiscards) (leaving + f .leaving) (returned + f .returned) (added + f .added)
 tally-turn {ps = ps} {d = d} {i = i} {held = held} {fits = fits} g p head f found held′ e most =
     record {
       every-fits = and-assoc fits (leb held′ maxDiscards) (stepsFit (drop (i + 1) ps) held′ d)
-          ∙ ap (λ (q : ℕ). fits && (leb q maxDiscards && stepsFit (drop (i + 1) ps) q d)) (e ∙ (λ q. held - found .leaving q + sym (listed-count p) q))
+          ∙ ap (λ (q : ℕ). fits && (leb q maxDiscards && stepsFit (drop (i + 1) ps) q d)) (e ∙ ap (λ (q : ℕ). held - q + length (listedBy p)) (found .leaving))
           ∙ ap (λ q. fits && stepsFit q held d) (sym head)
           ∙ g .every-fits;
       all-leaving = sum-turn (leavingBy (p .kind) (p .range) d) (leavingAll (drop (i + 1) ps) d) _ (f .leaving) _ (ap (λ q. leavingAll q d) head) (g .all-leaving) (found .leaving);

@@ -1,5 +1,5 @@
 -- What recording leaves of the discards: which of them stay by all plans, those that the plans list behind them, and the lists of a whole pass.
-use Prim.Native.Nat.{ℕ, _+_, _≤_, _<_}
+use Prim.Native.Nat.{ℕ, zero, suc, _+_, _-_, _≤_, _<_}
 use native.Mathlib.Omega.{arith}
 use mathlib.Core.Path.{_≡_, refl, sym, ap, subst, transport, _∙_}
 use mathlib.Core.Bool.{Bool, true, false, not, _&&_, cond}
@@ -9,7 +9,7 @@ use lib.Dec.{eqb}
 use lib.ListN.{length, drop, getD, length-append}
 use borrow.Author.Tests.{eqb-true, not-true, not-false}
 use Rattle.definition.specs.Sizes.{surfaceBytes, actionBytes, countBytes, listBytes, maxActions, maxClears}
-use Rattle.definition.specs.Surfaces.{named}
+use Rattle.definition.specs.Surfaces.{surfaceAt, layersFrom, layersOf}
 use Rattle.definition.specs.MemoryInit.{retain}
 use Rattle.definition.specs.Pass.{newPass}
 use Rattle.definition.specs.declared.Surface.{Surface}
@@ -27,7 +27,7 @@ use Rattle.memory_init.specs.declared.Planned.{Planned}
 use Rattle.memory_init.specs.declared.Plans.{Plans}
 use Rattle.memory_init.specs.declared.tally.Tally.{Tally}
 use Rattle.memory_init.specs.Plans.{initKind, plansIn, Whole}
-use Rattle.memory_init.specs.Recording.{staysBy, stays, Keeps, looked, Recordable}
+use Rattle.memory_init.specs.Recording.{staysBy, stays, Keeps, looked, LentDiscards, Recordable}
 use Rattle.memory_init.proofs.Turns.{plans-turn, plans-done}
 use Rattle.memory_init.proofs.Entries.{Parts}
 
@@ -90,17 +90,40 @@ compact-stays ps {n = n} {l₀ = l₀} g h =
 
 -- ── what the plans list
 
--- The discard that each plan lists.
+-- The discards that each plan lists.
 abbrev pub listed : Parts Surface
 listed = record { one = listedBy; all = listedAll; last = refl; next = λ p ps. refl }
 
--- A plan that discards lists the surface that its range names.
-pub listed-on : (p : Plan) → p .discards ≡ true → listedBy p ≡ named (p .range)
-listed-on p h = ap (λ b. cond b (named (p .range)) []) h
+-- A plan that discards lists the layers of its range.
+pub listed-on : (p : Plan) → p .discards ≡ true → listedBy p ≡ layersOf (p .range)
+listed-on p h = ap (λ b. cond b (layersOf (p .range)) []) h
 
 -- Another lists none.
 pub listed-off : (p : Plan) → p .discards ≡ false → listedBy p ≡ []
-listed-off p h = ap (λ b. cond b (named (p .range)) []) h
+listed-off p h = ap (λ b. cond b (layersOf (p .range)) []) h
+
+-- The layers of a range that are left behind the first i.
+abbrev pub layersLeft : Range → ℕ → List Surface
+layersLeft r i = layersFrom (r .texture) (r .mip) (r .slice) (r .layer + i) (r .layers - i)
+
+-- All of them.
+pub layers-start : (r : Range) → layersOf r ≡ layersLeft r 0
+layers-start r =
+    let first : r .layer ≡ r .layer + 0 = omega arith in
+    let all : r .layers ≡ r .layers - 0 = omega arith in
+    λ q. layersFrom (r .texture) (r .mip) (r .slice) (first q) (all q)
+
+-- The next of them, and those behind it.
+pub layers-turn : (r : Range) (i : ℕ) (s : Surface) → i < r .layers → s ≡ surfaceAt (r .texture) (r .mip) (r .layer + i) (r .slice) → layersLeft r i ≡ (s ∷ []) ++ layersLeft r (i + 1)
+layers-turn r i s more e =
+    let left : r .layers - i ≡ suc (r .layers - (i + 1)) = omega (arith, more) in
+    let next : r .layer + i + 1 ≡ r .layer + (i + 1) = omega arith in
+    ap (layersFrom (r .texture) (r .mip) (r .slice) (r .layer + i)) left
+    ∙ (λ q. sym e q ∷ layersFrom (r .texture) (r .mip) (r .slice) (next q) (r .layers - (i + 1)))
+
+-- Behind the last there is none.
+pub layers-done : (r : Range) (i : ℕ) → r .layers ≤ i → layersLeft r i ≡ []
+layers-done r i h = ap (layersFrom (r .texture) (r .mip) (r .slice) (r .layer + i)) (let e : r .layers - i ≡ zero = omega (arith, h) in e)
 
 -- ── what stays, and then what is listed
 
@@ -191,6 +214,15 @@ module _ (plans : Plans) (t : Tally) (b : ListBytes) (r : Recordable plans t b) 
   clears-room =
       let most : length (returnedAll ps (firstSurfaces n (b .discards))) ≤ maxClears = omega (arith, ap length all-returned, r .fits .clears) in
       record { bytes = omega (arith, most, r .long .clears); small = omega (arith, most) }
+
+  -- And so have the discards.
+  pub discards-lent : LentDiscards ps (t .leaving) (b .discards)
+  discards-lent = record {
+    held = r .held;
+    counted = r .tallied .leaving;
+    layers = r .layers;
+    room = record { bytes = omega (arith, r .fits .discards, r .held .long); small = omega (arith, r .fits .discards) };
+  }
 
   -- What the three parts leave is what the plans leave together.
   pub pass-leaves : {d a c : List ℕ} → SurfacesBecome (stayingAll ps (surfacesIn (b .discards)) ++ listedAll ps) (b .discards) d

@@ -13,7 +13,7 @@ use Rattle.definition.specs.declared.Surface.{Surface}
 use Rattle.definition.specs.declared.Range.{Range}
 use Rattle.definition.specs.declared.MemoryInitKind.{MemoryInitKind}
 use Rattle.laws.specs.Records.{records}
-use Rattle.laws.specs.Plans.{Plan, leavingAll, stayingAll, listedAll, together}
+use Rattle.laws.specs.Plans.{Plan, leavingAll, stayingAll, listedAll, together, Layered}
 use Rattle.lists.specs.Lists.{surfaceOf, surfacesIn, Room}
 use Rattle.lists.specs.Lent.{ListBytes, listsIn, Long, Fits}
 use Rattle.memory_init.specs.declared.Plans.{Plans}
@@ -44,6 +44,7 @@ looked leaving n = cond (eqb leaving 0) 0 n
 pub record LentDiscards (ps : List Plan) (leaving : ℕ) (b : List ℕ) : Type 0 where
   pub held : DiscardsInRoom b
   pub counted : leaving ≡ length (leavingAll ps (surfacesIn b))
+  pub layers : Layered ps
   pub room : Room surfaceBytes (length (stayingAll ps (surfacesIn b) ++ listedAll ps)) b
 
 -- Lent lists that have room for what the plans leave, which t has counted.
@@ -52,4 +53,5 @@ pub record Recordable (ps : Plans) (t : Tally) (b : ListBytes) : Type 0 where
   pub tallied : TallyOf (plansIn ps) (surfacesIn (b .discards)) t
   pub long : Long b
   pub held : DiscardsInRoom (b .discards)
+  pub layers : Layered (plansIn ps)
   pub fits : Fits (together (plansIn ps) (newPass (listsIn b)))

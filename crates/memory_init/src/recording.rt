@@ -12,19 +12,20 @@ use lists::put_action;
 use lists::put_surface;
 use lists::set_count;
 use lists::surface_at;
-use ranges::first_of;
 use ranges::hits;
+use ranges::layer_at;
 use ranges::only_range;
 ghost use mathlib.Core.Path.{_≡_};
 ghost use mathlib.Core.List.{_++_, map};
 ghost use mathlib.Core.Option.{some};
 ghost use Prim.Native.Nat.{_+_, _≤_};
 ghost use lib.ListN.{length, drop};
-ghost use Rattle.definition.specs.Sizes.{surfaceBytes, actionBytes, countBytes, listBytes};
+ghost use Rattle.definition.specs.Sizes.{maxLayers, surfaceBytes, actionBytes, countBytes, listBytes};
+ghost use Rattle.definition.specs.Surfaces.{layersOf};
 ghost use Rattle.definition.specs.MemoryInit.{implicitAt, matching};
 ghost use Rattle.definition.specs.Pass.{newPass};
 ghost use Rattle.laws.specs.Records.{Appended};
-ghost use Rattle.laws.specs.Plans.{returnedBy, addedBy, listedBy, stayingAll, returnedAll, addedAll, listedAll, together};
+ghost use Rattle.laws.specs.Plans.{returnedBy, addedBy, listedBy, stayingAll, returnedAll, addedAll, listedAll, together, Layered};
 ghost use Rattle.lists.specs.Lists.{surfaceOf, actionOfBytes, countIn, surfacesIn, actionsIn, Room, SurfacesBecome, ActionsBecome, firstSurfaces};
 ghost use Rattle.lists.specs.Lent.{bytes, listsIn, Leaves};
 ghost use Rattle.memory_init.specs.Plans.{initKind, needs, planIn, plansIn, Whole};
@@ -279,8 +280,29 @@ fn retain_all(discards: &mut [u8], n: usize, plans: Plans) -> usize
     kept
 }
 
-// What a plan lists goes to place n.
+// The layers of a range, lowest first, go to place n and those behind it.
+fn list_layers(discards: &mut [u8], n: usize, range: Range) -> usize
+    requires { ⌜ range .layer + range .layers ≤ maxLayers ⌝ }
+    requires { ⌜ listBytes surfaceBytes (n + range .layers) ≤ length (now discards) ⌝ }
+    ensures { λ r. ⌜
+        Appended surfaceBytes surfaceOf n (layersOf range)
+        (drop countBytes (now (discards .entry))) (drop countBytes (now (discards .exit))) r ⌝ }
+{
+    let first = range.layer;
+    let layers = range.layers;
+    let mut end = n;
+    let mut i = 0u32;
+    while i < layers {
+        put_surface(discards, end, layer_at(range, first + i));
+        end += 1;
+        i += 1;
+    }
+    end
+}
+
+// What a plan lists goes to place n and those behind it.
 fn list_by(discards: &mut [u8], n: usize, p: Planned) -> usize
+    requires { ⌜ p .range .layer + p .range .layers ≤ maxLayers ⌝ }
     requires { ⌜ listBytes surfaceBytes (n + length (listedBy (planIn p))) ≤ length (now discards) ⌝ }
     ensures { λ r. ⌜
         Appended surfaceBytes surfaceOf n (listedBy (planIn p))
@@ -290,14 +312,14 @@ fn list_by(discards: &mut [u8], n: usize, p: Planned) -> usize
         return n;
     }
     let range = p.range;
-    put_surface(discards, n, first_of(range));
-    n + 1
+    list_layers(discards, n, range)
 }
 
 // What all plans list goes behind the first n discards.
 fn list_all(discards: &mut [u8], n: usize, plans: Plans) -> usize
     requires { ⌜ Whole plans ⌝ }
     requires { ⌜ listBytes surfaceBytes (n + length (listedAll (plansIn plans))) ≤ length (now discards) ⌝ }
+    requires { ⌜ Layered (plansIn plans) ⌝ }
     ensures { λ r. ⌜
         Appended surfaceBytes surfaceOf n (listedAll (plansIn plans))
         (drop countBytes (now (discards .entry))) (drop countBytes (now (discards .exit))) r ⌝ }

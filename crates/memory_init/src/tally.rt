@@ -1,5 +1,6 @@
 // What a pass finds in the lists: counted on the discards as they are found, before anything is written.
 use crate::InitKind;
+use crate::Planned;
 use crate::Plans;
 use definition::MemoryInitKind;
 use definition::Range;
@@ -8,14 +9,14 @@ use lists::count;
 use lists::surface_at;
 use ranges::hits;
 ghost use mathlib.Core.Path.{_≡_};
-ghost use mathlib.Core.Bool.{cond};
 ghost use mathlib.Core.Option.{some};
 ghost use Prim.Native.Nat.{_-_, _≤_};
 ghost use lib.ListN.{length};
 ghost use Rattle.definition.specs.Sizes.{maxDiscards};
 ghost use Rattle.definition.specs.MemoryInit.{matching};
+ghost use Rattle.laws.specs.Plans.{listedBy};
 ghost use Rattle.lists.specs.Lists.{surfacesIn};
-ghost use Rattle.memory_init.specs.Plans.{initKind, plansIn, Whole};
+ghost use Rattle.memory_init.specs.Plans.{initKind, planIn, plansIn, Whole};
 ghost use Rattle.memory_init.specs.Tally.{DiscardsInRoom, FoundBy, TallyOf};
 
 // What one plan finds: the discards that leave the list, those of them that are returned as clears, and the actions that it adds.
@@ -92,11 +93,15 @@ fn left_of(held: usize, gone: usize) -> usize
     if gone <= held { held - gone } else { 0 }
 }
 
-// One if the test holds.
-fn one_if(test: bool) -> usize
-    ensures { λ r. ⌜ (r ≡ cond test 1 0) × (r ≤ 1) ⌝ }
+// How many discards a plan lists: one for each layer.
+fn listed_by(p: Planned) -> u32
+    ensures { λ r. ⌜ r ≡ length (listedBy (planIn p)) ⌝ }
 {
-    if test { 1 } else { 0 }
+    if !p.discards {
+        return 0;
+    }
+    let range = p.range;
+    range.layers
 }
 
 // What a pass finds, plan by plan.
@@ -118,7 +123,7 @@ pub fn tally_pass(discards: &[u8], plans: Plans) -> Tally
         let range = p.range;
         let kind = p.kind;
         let found = found_by(discards, range, kind);
-        held = left_of(held, found.leaving) + one_if(p.discards);
+        held = left_of(held, found.leaving) + listed_by(p) as usize;
         fits = fits & (held <= MAX_DISCARDS);
         leaving += found.leaving;
         returned += found.returned;

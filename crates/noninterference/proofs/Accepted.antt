@@ -24,18 +24,20 @@ use Rattle.definition.specs.declared.Verdict.{Verdict}
 use Rattle.definition.specs.declared.Progress.{Progress}
 use Rattle.laws.proofs.Tests.{clash, and-left, and-right, or-on-left, or-on-right, or-second}
 use Rattle.laws.proofs.Formats.{depth-color}
-use Rattle.laws.proofs.Surfaces.{hits-in, elem-append, named-hit}
+use Rattle.laws.proofs.Surfaces.{hits-in, elem-append, layers-all}
 use Rattle.laws.proofs.Lists.{map-append}
 use Rattle.laws.proofs.Overlap.{apart-elem}
 use Rattle.laws.proofs.Verdicts.{then-left, then-right, unless-on}
 use Rattle.laws.proofs.Folds.{next-accepted, next-refused}
 use Rattle.noninterference.specs.Memory.{usesOf, slotSlices, slotsSlices, passSlices}
+use Rattle.noninterference.specs.Claim.{namesLayers, namesAll}
 use Rattle.noninterference.proofs.Plans.{plannedUse}
 use Rattle.laws.specs.Surfaces.{RangeInside}
+use Rattle.laws.specs.Views.{ValidView}
 use Rattle.laws.specs.Separate.{reaches, reached, Separate}
 use Rattle.noninterference.proofs.Passes.{find, All, Distinct, all-map, all-append, distinct-append, unfound, reached-append}
 use Rattle.noninterference.proofs.Sound.{Sound, Fit}
-use Rattle.noninterference.proofs.Checked.{Single, ViewFacts, view-facts, takes-reached, strict-off, ColorFacts, target-facts, color-facts, DepthFacts, depth-facts}
+use Rattle.noninterference.proofs.Checked.{view-facts, takes-reached, strict-off, ColorFacts, target-facts, color-facts, DepthFacts, depth-facts}
 
 -- ── one slot
 
@@ -87,7 +89,7 @@ module _ (S : Session) (vs : viewsValid S ≡ true) where
           → SlotFacts S before (cond b [] (resolveTo (s .resolve) (sliceRange r 0) ∷ [])) (cond b [] (takes r 0))
       go true e h = slot-none S before []
       go false e h =
-          let known : ViewFacts S r = view-facts S vs (s .resolve) (or-second (isNone (s .resolve)) (ltb (s .resolve) (S .viewCount)) ok e) in
+          let known : ValidView S r = view-facts S vs (s .resolve) (or-second (isNone (s .resolve)) (ltb (s .resolve) (S .viewCount)) ok e) in
           let f : ColorFacts S (resolveTo (s .resolve) (sliceRange r 0)) × (meets (takes r 0) before ≡ false) = target-facts S v (s .resolve) (resolveAt k) q before known col h in
           slot-more S before (takes r 0) [] (resolveTo (s .resolve) (sliceRange r 0)) [] (f .0) (takes-reached r 0 (f .0 .mip)) (f .1) (slot-none S (takes r 0 ++ before) [])
 
@@ -120,7 +122,7 @@ module _ (S : Session) (vs : viewsValid S ≡ true) where
           let r1 : (ltb (s .view) (S .viewCount) && leb (s .sliced) 1 && resolveReads S (s .resolve) && leb (s .load) 2) ≡ true = and-left _ (leb (s .store) 1) ok in
           let r2 : (ltb (s .view) (S .viewCount) && leb (s .sliced) 1 && resolveReads S (s .resolve)) ≡ true = and-left _ (leb (s .load) 2) r1 in
           let r3 : (ltb (s .view) (S .viewCount) && leb (s .sliced) 1) ≡ true = and-left _ (resolveReads S (s .resolve)) r2 in
-          let known : ViewFacts S v = view-facts S vs (s .view) (and-left (ltb (s .view) (S .viewCount)) (leb (s .sliced) 1) r3) in
+          let known : ValidView S v = view-facts S vs (s .view) (and-left (ltb (s .view) (S .viewCount)) (leb (s .sliced) 1) r3) in
           let cares : strict S ≡ true → ignores (slotLoad s) ≡ false = strict-off (ignores (slotLoad s)) (strict S) (unless-on (not (ignores (slotLoad s) && strict S)) 11 k refl (then-left _ _ ops)) in
           let f : ColorFacts S (colorOf S s) × (meets (takes v (s .slice)) taken ≡ false) × (isColor (formatOf v) ≡ true) = color-facts S s k q fit taken known cares e in
           slot-more S taken (takes v (s .slice)) (resolveTakes S s) (colorOf S s) (resolvePart S s) (f .0) (takes-reached v (s .slice) (f .0 .mip)) (f .1)
@@ -228,12 +230,13 @@ pub record Ranged (S : Session) (x : Attached) : Type 0 where
   pub range : RangeInside S (rangeIn x)
   pub mip : rangeIn x .mips ≡ 1
 
--- What holds of every accepted pass of a readable session, and what of those that the theorem is about.
+-- What holds of every accepted pass of a readable session; of a strict one; and where the mask names all layers.
 pub record Okay (S : Session) (xs : List Attached) : Type 0 where
-  pub sound : strict S ≡ true → Single S → All (Sound S) xs
+  pub sound : strict S ≡ true → All (Sound S) xs
   pub ranged : All (Ranged S) xs
   pub distinct : Distinct xs
-  pub told : usesOf S (ofFirst 0 divergentOf xs) (map sliceIn xs) (map (attachmentReply S) xs) ≡ map plannedUse xs
+  pub told : (mask : ℕ) → namesAll S mask (map (attachmentReply S) xs) ≡ true
+      → usesOf S mask (ofFirst 0 divergentOf xs) (map sliceIn xs) (map (attachmentReply S) xs) ≡ map plannedUse xs
 
 -- The slices of the attachments are those that the memory is told.
 target-slice : (S : Session) (c : Slot) (b : Bool) → _≡_ {A = List ℕ} (cond b [] (0 ∷ [])) (map sliceIn (cond b [] (resolveTo (c .resolve) (sliceRange (S .view (c .resolve)) 0) ∷ [])))
@@ -266,9 +269,13 @@ pass-slices S p = go (isNone (p .depthStencil))
     go true = slots-slices S p (p .colors)
     go false = ap (λ l. 0 ∷ l) (slots-slices S p (p .colors))
 
-all-told : (S : Session) (d : ℕ) (xs : List Attached) → All (ColorFacts S) xs → usesOf S d (map sliceIn xs) (map (attachmentReply S) xs) ≡ map plannedUse xs
-all-told S d [] a = refl
-all-told S d (x ∷ xs) a = ap₂ _∷_ (a .0 .told d) (all-told S d xs (a .1))
+all-told : (S : Session) (d : ℕ) (xs : List Attached) → All (ColorFacts S) xs → (mask : ℕ) → namesAll S mask (map (attachmentReply S) xs) ≡ true
+    → usesOf S mask d (map sliceIn xs) (map (attachmentReply S) xs) ≡ map plannedUse xs
+all-told S d [] a mask g = refl
+all-told S d (x ∷ xs) a mask g =
+    let one : Bool = namesLayers mask (S .view (attachmentReply S x .view)) in
+    let more : Bool = namesAll S mask (map (attachmentReply S) xs) in
+    ap₂ _∷_ (a .0 .told d mask (and-left one more g)) (all-told S d xs (a .1) mask (and-right one more g))
 
 -- A depth-stencil texture is none of the colours'.
 depth-apart : (S : Session) (t : ℕ) (xs : List Attached) → isColor (S .texture t .format) ≡ false → All (ColorFacts S) xs → (s : Surface) → s .texture ≡ t → find s xs ≡ none
@@ -297,8 +304,8 @@ accepted-okay S vs p h =
     xs : List Attached
     xs = slotParts S p (p .colors)
 
-    sounds : All (ColorFacts S) xs → strict S ≡ true → Single S → All (Sound S) xs
-    sounds a st one = all-map (ColorFacts S) (Sound S) (λ y f. f .sound st one) xs a
+    sounds : All (ColorFacts S) xs → strict S ≡ true → All (Sound S) xs
+    sounds a st = all-map (ColorFacts S) (Sound S) (λ y f. f .sound st) xs a
 
     ranges : All (ColorFacts S) xs → All (Ranged S) xs
     ranges = all-map (ColorFacts S) (Ranged S) (λ y f. record { range = f .range; mip = f .mip }) xs
@@ -310,37 +317,41 @@ accepted-okay S vs p h =
         → Okay S (_++_ {A = Attached} (cond b [] (x ∷ [])) xs)
     go true r o g sl = record { sound = sounds (sl .facts); ranged = ranges (sl .facts); distinct = sl .distinct; told = all-told S (ofFirst 0 divergentOf xs) xs (sl .facts) }
     go false r o g sl =
-        let known : ViewFacts S v =
+        let known : ValidView S v =
         view-facts S vs (p .depthStencil) (and-left (ltb (p .depthStencil) (S .viewCount)) _ (and-left (ltb (p .depthStencil) (S .viewCount) && channelReads (p .depth)) _ r)) in
         let d : DepthFacts S p = depth-facts S p known o g in
         record {
-          sound = λ st one. (d .sound st one, sounds (sl .facts) st one);
+          sound = λ st. (d .sound st, sounds (sl .facts) st);
           ranged = (record { range = d .range; mip = d .mip }, ranges (sl .facts));
           distinct = (λ s e. depth-apart S (v .texture) xs (depth-color (textureFormat S v) (d .format)) (sl .facts) s (hits-in (rangeIn x) s e .texture), sl .distinct);
-          told = ap₂ _∷_ (d .told (divergentOf x)) (all-told S (divergentOf x) xs (sl .facts));
+          told = λ mask g.
+              let one : Bool = namesLayers mask v in
+              let more : Bool = namesAll S mask (map (attachmentReply S) xs) in
+              ap₂ _∷_ (d .told (divergentOf x) mask (and-left one more g)) (all-told S (divergentOf x) xs (sl .facts) mask (and-right one more g));
         }
 
--- ── no surface is reached twice
+-- ── what the code rests on too
 
+-- An attachment is one mip inside the session.
+pub pass-ranged : (S : Session) → viewsValid S ≡ true → (p : Pass) → isAccepted (check S p .verdict) ≡ true → All (Ranged S) (attachments S p)
+pass-ranged S vs p h = accepted-okay S vs p h .ranged
+
+-- No surface is reached twice.
 all-separate : (S : Session) (xs : List Attached) → All (Ranged S) xs → Distinct xs → Separate xs
 all-separate S [] a d = tt
-all-separate S (x ∷ xs) a d = (λ s h. unfound s xs (d .0 s h), named-hit (rangeIn x) (a .0 .range .some-mip) (a .0 .range .some-layer), all-separate S xs (a .1) (d .1))
+all-separate S (x ∷ xs) a d = (λ s h. unfound s xs (d .0 s h), λ s h. sym (layers-all (rangeIn x) (a .0 .mip) s) ∙ h, all-separate S xs (a .1) (d .1))
 
 pub pass-separate : (S : Session) → viewsValid S ≡ true → (p : Pass) → isAccepted (check S p .verdict) ≡ true → Separate (attachments S p)
 pass-separate S vs p h = let k : Okay S (attachments S p) = accepted-okay S vs p h in all-separate S (attachments S p) (k .ranged) (k .distinct)
 
 -- ── the theorem's conditions
 
--- Readable, strict, every view of one layer.
-pub record Conditions (S : Session) : Type 0 where
-  pub views : viewsValid S ≡ true
-  pub strict : strict S ≡ true
-  pub single : Single S
-
-pub conditions-fit : (S : Session) → Conditions S → Fit S
-conditions-fit S c = record {
-  sound = λ p h. accepted-okay S (c .views) p h .sound (c .strict) (c .single);
-  distinct = λ p h. accepted-okay S (c .views) p h .distinct;
-  tells = λ p h n q cl. ap (λ u. record { number = n; uses = u; clears = cl })
-      (ap (λ ks. usesOf S (ofFirst 0 divergentOf (attachments S p)) ks (map (attachmentReply S) (attachments S p))) (pass-slices S p) ∙ accepted-okay S (c .views) p h .told);
+-- Readable and strict.
+pub conditions-fit : (S : Session) → viewsValid S ≡ true → strict S ≡ true → Fit S
+conditions-fit S vs st = record {
+  sound = λ p h. accepted-okay S vs p h .sound st;
+  distinct = λ p h. accepted-okay S vs p h .distinct;
+  tells = λ p h g n q cl. ap (λ u. record { number = n; uses = u; clears = cl })
+      (ap (λ ks. usesOf S (p .mask) (ofFirst 0 divergentOf (attachments S p)) ks (map (attachmentReply S) (attachments S p))) (pass-slices S p)
+      ∙ accepted-okay S vs p h .told (p .mask) g);
 }

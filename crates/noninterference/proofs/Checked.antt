@@ -1,19 +1,21 @@
--- One attachment that the checks accept is one mip of the session, and sound where its view has one layer and the session is strict: its parts are its format's
--- aspects, and its reply tells them.
+-- One attachment that the checks accept is one mip of the session, and sound where the session is strict: its parts are its format's aspects, and its reply tells
+-- them, if the mask names all its layers.
 use mathlib.Core.Path.{_≡_, refl, sym, ap, ap₂, subst, _∙_}
 use mathlib.Core.Bool.{Bool, true, false, not, _&&_, _||_, cond}
 use mathlib.Core.List.{List, [], _∷_, _++_}
 use mathlib.Core.Option.{Option, none, some}
-use Prim.Native.Nat.{ℕ, _+_, _-_, _<_}
+use Prim.Native.Nat.{ℕ, zero, suc, _+_, _-_, _≤_, _<_}
 use native.Mathlib.Omega.{arith}
 use lib.Dec.{ltb, eqb}
 use lib.Ieee.{Float}
 use borrow.Author.Tests.{eqb-true, ltb-true}
+use Rattle.definition.specs.Bytes.{bit}
 use Rattle.definition.specs.Formats.{isColor, isDepthStencil, aspects, hasDepth, hasStencil}
-use Rattle.definition.specs.Surfaces.{hits, layersOf, elem, meets}
+use Rattle.definition.specs.Surfaces.{surfaceAt, hits, layersFrom, layersOf, elem, meets}
 use Rattle.definition.specs.Session.{Pass, Session, strict, formatOf, textureFormat, slicesIn, rangeOf, attachedSlice, sliceRange, viewRange, depthOf, isD2, isD2Array, isD3, transient}
 use Rattle.definition.specs.Verdict.{atDepthStencil, isAccepted, _then_, unless}
 use Rattle.definition.specs.Readable.{viewsValid}
+use Rattle.definition.specs.MemoryInit.{retain}
 use Rattle.definition.specs.Channel.{LoadOp, loadOp, clearOp, dontCare, Ops, operational, keepOf, ignores, loadBits, storeBits, clearValue, PassChannel, depthChannel, stencilChannel, Handled, value, refusal, resolveReadOnly, withStore, withClear, resolveOps, resolve, handleDepth, handleStencil, resolveDepth, resolveStencil, depthResolved, stencilResolved, resolvedOps}
 use Rattle.definition.specs.Views.{noneSeen, renderable, multiviewVerdict, viewVerdict, sliceVerdict, takes, overlapVerdict, depthStencilView, colorView, targetView, targetOf, resolveView}
 use Rattle.definition.specs.Check.{slotLoad, channelOps}
@@ -26,15 +28,17 @@ use Rattle.definition.specs.declared.Color.{Color}
 use Rattle.definition.specs.declared.Slot.{Slot}
 use Rattle.definition.specs.declared.Seen.{Seen}
 use Rattle.definition.specs.declared.Surface.{Surface}
+use Rattle.definition.specs.declared.Range.{Range}
 use Rattle.laws.specs.Surfaces.{RangeInside}
 use Rattle.laws.specs.Views.{ValidView}
 use Rattle.laws.proofs.Tests.{clash, and-on, not-off}
 use Rattle.laws.proofs.Formats.{color-depth, color-stencil, depth-color, fits-color, fits-aspects}
-use Rattle.laws.proofs.Surfaces.{hits-in, layers-all, named-one}
+use Rattle.laws.proofs.Surfaces.{hits-in, layers-all}
 use Rattle.laws.proofs.Verdicts.{then-left, then-right, unless-on}
-use Rattle.laws.proofs.Folds.{views-each}
+use Rattle.laws.proofs.Folds.{and-each, views-each}
 use Rattle.laws.proofs.Views.{valid-view, range-surface, slices-some, solid-view, renderable-mip}
-use Rattle.noninterference.specs.Memory.{Aspect, colorAspect, depthAspect, stencilAspect, formatHas, Clear, ofColor, ofDepth, ofStencil, nothing, Part, partIn, useOf}
+use Rattle.noninterference.specs.Memory.{Aspect, colorAspect, depthAspect, stencilAspect, formatHas, Clear, ofColor, ofDepth, ofStencil, nothing, Part, partIn, draws, drawn, useOf}
+use Rattle.noninterference.specs.Claim.{bitsSet, namesLayers}
 use Rattle.noninterference.proofs.Plans.{inputOf, partOf, partsOf, plannedUse, hasPart, proper}
 use Rattle.noninterference.proofs.Sound.{Sound}
 
@@ -61,6 +65,28 @@ depth-aspects f h true false i j d s p q stencilAspect = rw (j, p)
 depth-aspects f h false true i j d s p q stencilAspect = rw (j, q)
 depth-aspects f h false false i j d s p q stencilAspect = rw j
 
+-- ── a mask that names all layers draws all
+
+-- Each bit below n.
+bits-each : (mask n : ℕ) → bitsSet mask n ≡ true → (j : ℕ) → j < n → bit mask j ≡ true
+bits-each mask = and-each (bitsSet mask) (bit mask) (λ n. refl)
+
+-- Layers that are all drawn.
+layers-drawn : (mask : ℕ) (r : Range) (t m k l n : ℕ) → ((i : ℕ) → l ≤ i → i < l + n → draws mask r (surfaceAt t m i k) ≡ true)
+    → retain (draws mask r) (layersFrom t m k l n) ≡ layersFrom t m k l n
+layers-drawn mask r t m k l zero h = refl
+layers-drawn mask r t m k l (suc n) h =
+    rw (h l (omega arith) (omega arith))
+    (ap (λ x. surfaceAt t m l k ∷ x) (layers-drawn mask r t m k (l + 1) n (λ i a b. h i (omega (arith, a)) (omega (arith, b)))))
+
+-- The layers of a view at a slice.
+drawn-all : (mask : ℕ) (v : View) (k : ℕ) → namesLayers mask v ≡ true → drawn mask (rangeOf v k) ≡ layersOf (rangeOf v k)
+drawn-all mask v k h = layers-drawn mask (rangeOf v k) (v .texture) (v .mip) k (v .layer) (v .layers) (λ i a b. go i a b (ltb (v .layers) 2) refl)
+  where
+    go : (i : ℕ) → v .layer ≤ i → i < v .layer + v .layers → (q : Bool) → ltb (v .layers) 2 ≡ q → draws mask (rangeOf v k) (surfaceAt (v .texture) (v .mip) i k) ≡ true
+    go i a b true e = rw e
+    go i a b false e = simp (e, bits-each mask (v .layers) (rw e at h) (i - v .layer) (omega (arith, a, b)))
+
 -- ── the reply tells the parts
 
 part-told : {X : Type 0} (a : Aspect) (f : X → Clear) (o : X) (l : LoadOp X) (k : Bool)
@@ -72,46 +98,37 @@ part-told a f o (clearOp x) false = refl
 part-told a f o dontCare true = refl
 part-told a f o dontCare false = refl
 
-resolve-told : (S : Session) (n d k : ℕ) → isColor (textureFormat S (S .view n)) ≡ true
-    → useOf S d k (attachmentReply S (resolveTo n (rangeOf (S .view n) k))) ≡ plannedUse (resolveTo n (rangeOf (S .view n) k))
-resolve-told S n d k h = rw h
+resolve-told : (S : Session) (n d k mask : ℕ) → isColor (textureFormat S (S .view n)) ≡ true → namesLayers mask (S .view n) ≡ true
+    → useOf S mask d k (attachmentReply S (resolveTo n (rangeOf (S .view n) k))) ≡ plannedUse (resolveTo n (rangeOf (S .view n) k))
+resolve-told S n d k mask h g = rw (drawn-all mask (S .view n) k g, h)
 
-color-told : (S : Session) (n d k : ℕ) (o : Ops Color) → isColor (textureFormat S (S .view n)) ≡ true
-    → useOf S d k (attachmentReply S (color n (rangeOf (S .view n) k) o)) ≡ plannedUse (color n (rangeOf (S .view n) k) o)
-color-told S n d k o h =
-    rw h (ap (λ q. record { surfaces = layersOf (rangeOf (S .view n) k); parts = q ∷ []; divergent = 0 }) (part-told colorAspect ofColor black (o .load) (o .keep)))
+color-told : (S : Session) (n d k mask : ℕ) (o : Ops Color) → isColor (textureFormat S (S .view n)) ≡ true → namesLayers mask (S .view n) ≡ true
+    → useOf S mask d k (attachmentReply S (color n (rangeOf (S .view n) k) o)) ≡ plannedUse (color n (rangeOf (S .view n) k) o)
+color-told S n d k mask o h g =
+    rw (drawn-all mask (S .view n) k g, h)
+    (ap (λ q. record { surfaces = layersOf (rangeOf (S .view n) k); parts = q ∷ []; divergent = 0 }) (part-told colorAspect ofColor black (o .load) (o .keep)))
 
-depth-told : (S : Session) (n : ℕ) (d : Ops Float) (s : Ops ℕ) (hd hs : Bool) (div : ℕ)
-    → isColor (textureFormat S (S .view n)) ≡ false → hasDepth (textureFormat S (S .view n)) ≡ hd → hasStencil (textureFormat S (S .view n)) ≡ hs
-    → useOf S div 0 (attachmentReply S (depthStencil n (viewRange (S .view n)) hd hs d s))
+depth-told : (S : Session) (n : ℕ) (d : Ops Float) (s : Ops ℕ) (hd hs : Bool) (div mask : ℕ)
+    → isColor (textureFormat S (S .view n)) ≡ false → hasDepth (textureFormat S (S .view n)) ≡ hd → hasStencil (textureFormat S (S .view n)) ≡ hs → namesLayers mask (S .view n) ≡ true
+    → useOf S mask div 0 (attachmentReply S (depthStencil n (viewRange (S .view n)) hd hs d s))
     ≡ record { surfaces = layersOf (viewRange (S .view n)); parts = partsOf (depthStencil n (viewRange (S .view n)) hd hs d s); divergent = div }
-depth-told S n d s hd hs div h p q =
-    rw (h, p, q)
+depth-told S n d s hd hs div mask h p q g =
+    rw (drawn-all mask (S .view n) 0 g, h, p, q)
     (ap₂ (λ a b. record { surfaces = layersOf (viewRange (S .view n)); parts = cond hd (a ∷ []) [] ++ cond hs (b ∷ []) []; divergent = div })
     (part-told depthAspect ofDepth zero32 (d .load) (d .keep)) (part-told stencilAspect ofStencil 0 (s .load) (s .keep)))
 
--- ── the session's conditions
+-- ── one mip of the session
 
--- Every view has one layer.
-abbrev pub Single : Session → Type 0
-Single S = (k : ℕ) → k < S .viewCount → S .view k .layers ≡ 1
+-- What number 4 gives of a view.
+pub view-facts : (S : Session) → viewsValid S ≡ true → (k : ℕ) → ltb k (S .viewCount) ≡ true → ValidView S (S .view k)
+view-facts S vs k h = valid-view S (S .view k) (views-each S (S .viewCount) vs k (ltb-true k (S .viewCount) h))
 
--- What number 4 gives of a view, and what the condition does.
-pub record ViewFacts (S : Session) (v : View) : Type 0 where
-  pub valid : ValidView S v
-  pub single : Single S → v .layers ≡ 1
-
-pub view-facts : (S : Session) → viewsValid S ≡ true → (k : ℕ) → ltb k (S .viewCount) ≡ true → ViewFacts S (S .view k)
-view-facts S vs k h =
-    let g : k < S .viewCount = ltb-true k (S .viewCount) h in
-    record { valid = valid-view S (S .view k) (views-each S (S .viewCount) vs k g); single = λ one. one k g }
-
--- An attachment of one mip and one layer of the session. (With every layer named by a discard, the layers would not matter.)
-sound-of : (S : Session) (x : Attached) → RangeInside S (rangeIn x) → rangeIn x .mips ≡ 1 → rangeIn x .layers ≡ 1 → proper x ≡ true
+-- An attachment of one mip of the session.
+sound-of : (S : Session) (x : Attached) → RangeInside S (rangeIn x) → rangeIn x .mips ≡ 1 → proper x ≡ true
     → ((a : Aspect) → formatHas (S .texture (rangeIn x .texture) .format) a ≡ hasPart (partsOf x) a) → Sound S x
-sound-of S x range mip layer strict aspects = record {
+sound-of S x range mip strict aspects = record {
   strict = strict;
-  names = named-one (rangeIn x) mip layer;
+  names = layers-all (rangeIn x) mip;
   spreads = layers-all (rangeIn x) mip;
   inside = range-surface S (rangeIn x) range;
   aspects = λ s e a. ap (λ t. formatHas (S .texture t .format) a) (hits-in (rangeIn x) s e .texture) ∙ aspects a;
@@ -159,18 +176,18 @@ target-inside S v known mip = range-at S v (attachedSlice v 0) known mip (go (is
 -- ── colours and resolve targets
 
 pub record ColorFacts (S : Session) (x : Attached) : Type 0 where
-  pub sound : strict S ≡ true → Single S → Sound S x
+  pub sound : strict S ≡ true → Sound S x
   pub range : RangeInside S (rangeIn x)
   pub mip : rangeIn x .mips ≡ 1
   pub colored : isColor (S .texture (rangeIn x .texture) .format) ≡ true
-  pub told : (d : ℕ) → useOf S d (rangeIn x .slice) (attachmentReply S x) ≡ plannedUse x
+  pub told : (d mask : ℕ) → namesLayers mask (S .view (attachmentReply S x .view)) ≡ true → useOf S mask d (rangeIn x .slice) (attachmentReply S x) ≡ plannedUse x
 
 pub strict-off : (x b : Bool) → not (x && b) ≡ true → b ≡ true → x ≡ false
 strict-off true b h e = clash e (not-off b h)
 strict-off false b h e = refl
 
 -- A resolve target: 41, 34, 43.
-pub target-facts : (S : Session) (v : View) (n place : ℕ) (q : Seen) (taken : List Surface) → ViewFacts S (S .view n) → isColor (formatOf v) ≡ true
+pub target-facts : (S : Session) (v : View) (n place : ℕ) (q : Seen) (taken : List Surface) → ValidView S (S .view n) → isColor (formatOf v) ≡ true
     → isAccepted (resolveView S q taken v (S .view n) place) ≡ true
     → ColorFacts S (resolveTo n (sliceRange (S .view n) 0)) × (meets (takes (S .view n) 0) taken ≡ false)
 unfolding resolveView targetView targetOf overlapVerdict
@@ -182,21 +199,21 @@ target-facts S v n place q taken known col h =
     let from-42 = then-right _ _ (then-right (targetView S q taken r place) _ h) in
     let from-43 = then-right _ _ from-42 in
     let same-format : formatOf v ≡ formatOf r = eqb-true _ _ (unless-on (eqb (formatOf v) (formatOf r)) 43 place refl (then-left _ _ from-43)) in
-    let rcol : isColor (textureFormat S r) ≡ true = sym (fits-color (formatOf r) (textureFormat S r) (known .valid .format)) ∙ ap isColor (sym same-format) ∙ col in
+    let rcol : isColor (textureFormat S r) ≡ true = sym (fits-color (formatOf r) (textureFormat S r) (known .format)) ∙ ap isColor (sym same-format) ∙ col in
     let mip : r .mips ≡ 1 = renderable-mip r (unless-on (renderable r) 34 place refl on-34) in (
       record {
-        sound = λ st one. sound-of S (resolveTo n (sliceRange r 0)) (target-inside S r (known .valid) mip) mip (known .single one) refl
+        sound = λ st. sound-of S (resolveTo n (sliceRange r 0)) (target-inside S r known mip) mip refl
             (color-aspects (textureFormat S r) rcol (record { aspect = colorAspect; input = nothing; keep = true }) refl);
-        range = target-inside S r (known .valid) mip;
+        range = target-inside S r known mip;
         mip = mip;
         colored = rcol;
-        told = λ d. resolve-told S n d (attachedSlice r 0) rcol;
+        told = λ d mask. resolve-told S n d (attachedSlice r 0) mask rcol;
       },
       not-off _ (unless-on (not (meets (takes r 0) taken)) 41 place refl (then-left _ _ from-41)),
     )
 
 -- A colour: 11, 34, 37, 41.
-pub color-facts : (S : Session) (c : Slot) (k : ℕ) (q : Seen) (fit : Bool) (taken : List Surface) → ViewFacts S (S .view (c .view)) → (strict S ≡ true → ignores (slotLoad c) ≡ false)
+pub color-facts : (S : Session) (c : Slot) (k : ℕ) (q : Seen) (fit : Bool) (taken : List Surface) → ValidView S (S .view (c .view)) → (strict S ≡ true → ignores (slotLoad c) ≡ false)
     → isAccepted (colorView S q fit taken c (S .view (c .view)) k) ≡ true
     → ColorFacts S (colorOf S c) × (meets (takes (S .view (c .view)) (c .slice)) taken ≡ false) × (isColor (formatOf (S .view (c .view))) ≡ true)
 unfolding colorView viewVerdict overlapVerdict
@@ -206,16 +223,16 @@ color-facts S c k q fit taken known cares h =
     let from-37 = then-right (viewVerdict S q v k) _ from-34 in
     let from-38 = then-right (unless (isColor (formatOf v)) 37 k) _ from-37 in
     let shown : isColor (formatOf v) ≡ true = unless-on (isColor (formatOf v)) 37 k refl (then-left _ _ from-37) in
-    let col : isColor (textureFormat S v) ≡ true = sym (fits-color (formatOf v) (textureFormat S v) (known .valid .format)) ∙ shown in
+    let col : isColor (textureFormat S v) ≡ true = sym (fits-color (formatOf v) (textureFormat S v) (known .format)) ∙ shown in
     let mip : v .mips ≡ 1 = renderable-mip v (unless-on (renderable v) 34 k refl (then-left _ _ (then-left (viewVerdict S q v k) _ from-34))) in
-    let range : RangeInside S (sliceRange v (c .slice)) = slice-inside S c v k (known .valid) mip (then-left (sliceVerdict S c v k) _ from-38) in (
+    let range : RangeInside S (sliceRange v (c .slice)) = slice-inside S c v k known mip (then-left (sliceVerdict S c v k) _ from-38) in (
       record {
-        sound = λ st one. sound-of S (colorOf S c) range mip (known .single one) (ap not (cares st))
+        sound = λ st. sound-of S (colorOf S c) range mip (ap not (cares st))
             (color-aspects (textureFormat S v) col (partOf colorAspect ofColor (operational (slotLoad c) (keepOf (c .store)))) refl);
         range = range;
         mip = mip;
         colored = col;
-        told = λ d. color-told S (c .view) d (attachedSlice v (c .slice)) (operational (slotLoad c) (keepOf (c .store))) col;
+        told = λ d mask. color-told S (c .view) d (attachedSlice v (c .slice)) mask (operational (slotLoad c) (keepOf (c .store))) col;
       },
       not-off _ (unless-on (not (meets (takes v (c .slice)) taken)) 41 k refl (then-right (unless fit 51 k) _ (then-right (sliceVerdict S c v k) _ from-38))),
       shown,
@@ -264,14 +281,14 @@ stencil-cares false c = refl
 
 -- 13, 23, 34.
 pub record DepthFacts (S : Session) (p : Pass) : Type 0 where
-  pub sound : strict S ≡ true → Single S → Sound S (depthStencilOf S p (S .view (p .depthStencil)))
+  pub sound : strict S ≡ true → Sound S (depthStencilOf S p (S .view (p .depthStencil)))
   pub range : RangeInside S (viewRange (S .view (p .depthStencil)))
   pub mip : S .view (p .depthStencil) .mips ≡ 1
   pub format : isDepthStencil (textureFormat S (S .view (p .depthStencil))) ≡ true
-  pub told : (d : ℕ) → useOf S d 0 (attachmentReply S (depthStencilOf S p (S .view (p .depthStencil))))
+  pub told : (d mask : ℕ) → namesLayers mask (S .view (p .depthStencil)) ≡ true → useOf S mask d 0 (attachmentReply S (depthStencilOf S p (S .view (p .depthStencil))))
       ≡ record { surfaces = layersOf (viewRange (S .view (p .depthStencil))); parts = partsOf (depthStencilOf S p (S .view (p .depthStencil))); divergent = d }
 
-pub depth-facts : (S : Session) (p : Pass) → ViewFacts S (S .view (p .depthStencil))
+pub depth-facts : (S : Session) (p : Pass) → ValidView S (S .view (p .depthStencil))
     → isAccepted (channelOps (strict S) (transient (S .view (p .depthStencil))) (formatOf (S .view (p .depthStencil))) (p .depth) (p .stencil)) ≡ true
     → isAccepted (depthStencilView S (S .view (p .depthStencil))) ≡ true → DepthFacts S p
 unfolding channelOps depthStencilView viewVerdict
@@ -280,20 +297,20 @@ depth-facts S p known ops h =
     let f : ℕ = formatOf v in
     let t : ℕ = textureFormat S v in
     let ds : isDepthStencil f ≡ true = unless-on (isDepthStencil f) 13 atDepthStencil refl (then-left _ _ ops) in
-    let alike : aspects t ≡ aspects f = sym (fits-aspects f t (known .valid .format)) in
+    let alike : aspects t ≡ aspects f = sym (fits-aspects f t (known .format)) in
     let own : isDepthStencil t ≡ true = ap (λ a. a .depth || a .stencil) alike ∙ ds in
     let depths : hasDepth t ≡ hasDepth f = ap (λ a. a .depth) alike in
     let stencils : hasStencil t ≡ hasStencil f = ap (λ a. a .stencil) alike in
     let mip : v .mips ≡ 1 = renderable-mip v (unless-on (renderable v) 34 atDepthStencil refl (then-left _ _ (then-right (multiviewVerdict S noneSeen v atDepthStencil) (viewVerdict S noneSeen v atDepthStencil) h))) in
     record {
-      sound = λ st one. sound-of S (depthStencilOf S p v) (known .valid .range) mip (known .single one)
+      sound = λ st. sound-of S (depthStencilOf S p v) (known .range) mip
           (and-on ((hasDepth f || hasStencil f) && not (hasDepth f && ignores (depthOps S p f .load))) _
           (and-on (hasDepth f || hasStencil f) _ ds
           (subst (λ b. not (hasDepth f && ignores (resolvedOps (depthResolved (hasDepth f) b (p .depth)) .load)) ≡ true) (sym st) (depth-cares (hasDepth f) (p .depth))))
           (subst (λ b. not (hasStencil f && ignores (resolvedOps (stencilResolved (hasStencil f) b (p .stencil)) .load)) ≡ true) (sym st) (stencil-cares (hasStencil f) (p .stencil))))
           (depth-aspects t own (hasDepth f) (hasStencil f) depths stencils (partOf depthAspect ofDepth (depthOps S p f)) (partOf stencilAspect ofStencil (stencilOps S p f)) refl refl);
-      range = known .valid .range;
+      range = known .range;
       mip = mip;
       format = own;
-      told = λ d. depth-told S (p .depthStencil) (depthOps S p f) (stencilOps S p f) (hasDepth f) (hasStencil f) d (depth-color t own) depths stencils;
+      told = λ d mask. depth-told S (p .depthStencil) (depthOps S p f) (stencilOps S p f) (hasDepth f) (hasStencil f) d mask (depth-color t own) depths stencils;
     }

@@ -1,24 +1,25 @@
--- The theorem applied to a file, the memory computed on small runs, and two sessions outside the theorem of which the claim is false.
+-- The theorem applied to files, the memory computed on small runs, and runs outside the theorem of which the claim is false: without the strict flag, and with masks
+-- that leave layers out.
 use mathlib.Core.Path.{_≡_, refl, sym, _∙_}
 use mathlib.Core.Bool.{Bool, true, false, not}
 use mathlib.Core.List.{List, [], _∷_}
 use mathlib.Core.Option.{none}
-use Prim.Native.Nat.{ℕ, zero, suc, _+_, _<_}
+use Prim.Native.Nat.{ℕ, _+_}
 use native.Mathlib.Omega.{arith}
 use lib.ListN.{take}
 use Rattle.definition.specs.Sizes.{noView}
 use Rattle.definition.specs.Surfaces.{surfaceAt}
-use Rattle.definition.specs.Session.{session}
+use Rattle.definition.specs.Session.{session, strict}
 use Rattle.definition.specs.Readable.{sessionRefusal}
 use Rattle.definition.specs.Status.{filled}
-use Rattle.definition.specs.Calls.{fresh, Call, pass, submit}
+use Rattle.definition.specs.Calls.{fresh, Call, pass, submit, answers}
 use Rattle.definition.specs.Computing.{computing}
-use Rattle.definition.specs.Files.{texture, view, shownAs, channel, sliceSlot, slot, colors, depthStencil, file}
+use Rattle.definition.specs.Files.{texture, view, shownAs, channel, absent, sliceSlot, slot, passOf, colors, depthStencil, file}
 use Rattle.definition.specs.declared.Surface.{Surface}
 use Rattle.laws.specs.Surfaces.{Inside}
 use Rattle.laws.proofs.Tests.{clash}
 use Rattle.noninterference.specs.Memory.{colorAspect, stencilAspect, Drawing, Contents}
-use Rattle.noninterference.specs.Claim.{byteAt, submittedPasses, lastUse, kept, loadedBy, memoryAfter, Claim}
+use Rattle.noninterference.specs.Claim.{allMasked, Masked, byteAt, submittedPasses, lastUse, kept, loadedBy, memoryAfter, Hidden, Claim}
 use Rattle.noninterference.proofs.Theorem.{demand-three, fresh-starts}
 
 -- ── inside the theorem
@@ -36,12 +37,7 @@ strictFile =
 -- The premises can be met.
 pub applies : Claim (session strictFile)
 unfolding computing
-applies = demand-three strictFile refl refl single
-  where
-    single : (k : ℕ) → k < session strictFile .viewCount → session strictFile .view k .layers ≡ 1
-    single zero h = refl
-    single (suc zero) h = refl
-    single (suc (suc k)) h = absurd (omega arith)
+applies = demand-three strictFile refl refl
 
 -- A memory of numbers: zero is 0, a clear gives 1, the pass of call n draws 100 + n; 5 is there at the start, and a discard leaves 7.
 abbrev drawing : Drawing ℕ
@@ -114,43 +110,104 @@ slice-emptied = refl
 
 pub slices-apply : Claim (session slicesFile)
 unfolding computing
-slices-apply = demand-three slicesFile refl refl single
-  where
-    single : (k : ℕ) → k < session slicesFile .viewCount → session slicesFile .view k .layers ≡ 1
-    single zero h = refl
-    single (suc k) h = absurd (omega arith)
+slices-apply = demand-three slicesFile refl refl
+
+-- A view of both layers of a texture, and a pass that has it as its colour, under a mask.
+abbrev stereoFile : (flags : ℕ) → List (List ℕ) → List ℕ
+stereoFile flags passes = file 8 2 flags (texture 3 2 4 2 1 1 16 ∷ []) (view 0 3 1 2 16 0 ∷ []) passes
+
+abbrev stereo : (mask load store : ℕ) → List ℕ
+stereo mask load store = passOf mask 0 noView absent absent (slot 0 load store ∷ [])
+
+-- Mask 3 names both. Passes: 0 Clear with Store; 1 Clear with Discard; 2 Load with Store.
+abbrev eyesFile : List ℕ
+eyesFile = stereoFile 3 (stereo 3 1 0 ∷ stereo 3 1 1 ∷ stereo 3 0 0 ∷ [])
+
+-- A discard empties both: a load shows zero in each, in the same buffer and in the next. After a store it shows what was drawn.
+pub both-emptied : (runOf eyesFile (pass 0 ∷ pass 1 ∷ pass 2 ∷ submit ∷ [])
+    ∷ runOf eyesFile (pass 0 ∷ pass 1 ∷ submit ∷ pass 2 ∷ submit ∷ [])
+    ∷ runOf eyesFile (pass 0 ∷ submit ∷ pass 2 ∷ submit ∷ [])
+    ∷ [])
+    ≡ (((1 ∷ 1 ∷ []) ∷ (1 ∷ 1 ∷ []) ∷ (0 ∷ 0 ∷ []) ∷ [])
+    ∷ ((1 ∷ 1 ∷ []) ∷ (1 ∷ 1 ∷ []) ∷ (0 ∷ 0 ∷ []) ∷ [])
+    ∷ ((1 ∷ 1 ∷ []) ∷ (100 ∷ 100 ∷ []) ∷ [])
+    ∷ [])
+unfolding computing
+both-emptied = refl
+
+-- The masks are what the claim asks for, and so the theorem speaks of it.
+abbrev eyesCalls : List Call
+eyesCalls = pass 0 ∷ pass 1 ∷ pass 2 ∷ submit ∷ pass 1 ∷ submit ∷ pass 2 ∷ submit ∷ []
+
+pub eyes-masked : Masked (session eyesFile) fresh eyesCalls
+unfolding computing
+eyes-masked = refl
+
+pub eyes-apply : {Val : Type 0} (D : Drawing Val) (c c′ : Contents Val) → Hidden D c c′ (session eyesFile) fresh eyesCalls
+unfolding computing
+eyes-apply {Val} D c c′ = demand-three eyesFile refl refl Val D c c′ fresh (fresh-starts eyesFile refl) eyesCalls eyes-masked
 
 -- ── outside it
 
--- A readable session of which the claim is false.
-pub record Fails (s : List ℕ) : Type 1 where
+-- A readable session and calls of it, strict or not and masked or not, of which what is claimed is false.
+pub record Fails (s : List ℕ) (calls : List Call) (isStrict isMasked : Bool) : Type 0 where
   pub readable : sessionRefusal s ≡ 0
-  pub fails : Claim (session s) → ⊥
+  pub strict : strict (session s) ≡ isStrict
+  pub masked : allMasked (session s) calls (answers (session s) calls fresh) ≡ isMasked
+  pub fails : Hidden drawing contents contents (session s) fresh calls → ⊥
 
 not-opposite : (b : Bool) → b ≡ not b → ⊥
 not-opposite true h = clash {b = true} refl h
 not-opposite false h = clash {b = false} h refl
 
--- After the first n calls the surface x is marked otherwise than the last pass kept it.
-marked-wrong : (s : List ℕ) (calls : List Call) (n : ℕ) (x : Surface) (b : Bool) → sessionRefusal s ≡ 0 → Inside (session s) x
-    → filled (byteAt (session s) fresh (take n calls) x) ≡ b → kept (lastUse none (submittedPasses (session s) fresh (take n calls)) x) ≡ not b → Fails s
-marked-wrong s calls n x b ok inside marked left =
-    record { readable = ok; fails = λ claim. not-opposite b (sym marked ∙ claim ℕ drawing contents contents fresh (fresh-starts s ok) calls .marks n x inside ∙ left) }
+-- After the first n calls a surface is marked otherwise than the last pass kept it.
+marked-wrong : (s : List ℕ) (calls : List Call) (n : ℕ) (x : Surface) (b : Bool) → Inside (session s) x
+    → filled (byteAt (session s) fresh (take n calls) x) ≡ b → kept (lastUse none (submittedPasses (session s) fresh (take n calls)) x) ≡ not b
+    → Hidden drawing contents contents (session s) fresh calls → ⊥
+marked-wrong s calls n x b inside marked left h = not-opposite b (sym marked ∙ h .marks n x inside ∙ left)
 
--- Not strict: depth Clear and stencil DontCare, both stored, registers nothing, so the surface is not marked filled.
+-- Depth Clear and stencil DontCare, both stored.
 abbrev looseFile : List ℕ
 looseFile =
     file 8 0 0 (texture 23 2 4 1 1 1 16 ∷ []) (view 0 2 1 1 16 0 ∷ []) (depthStencil 0 (channel 1 0 0 1 0) (channel 2 0 0 0 0) ∷ [])
 
-pub not-loose : Fails looseFile
+-- Not strict: the pass registers nothing, so the surface is not marked filled.
+pub not-loose : Fails looseFile (pass 0 ∷ submit ∷ []) false true
 unfolding computing
-not-loose = marked-wrong looseFile (pass 0 ∷ submit ∷ []) 2 (surfaceAt 0 0 0 0) false refl (record { texture = omega arith; mip = omega arith; layer = omega arith; slice = omega arith }) refl refl
+not-loose = record {
+  readable = refl;
+  strict = refl;
+  masked = refl;
+  fails = marked-wrong looseFile (pass 0 ∷ submit ∷ []) 2 (surfaceAt 0 0 0 0) false (record { texture = omega arith; mip = omega arith; layer = omega arith; slice = omega arith }) refl refl;
+}
 
--- Two layers: a discard names the first layer alone, so the second stays marked filled.
-abbrev layersFile : List ℕ
-layersFile =
-    file 8 2 3 (texture 3 2 4 2 1 1 16 ∷ []) (view 0 3 1 2 16 0 ∷ []) (colors (slot 0 1 0 ∷ []) ∷ colors (slot 0 1 1 ∷ []) ∷ [])
+-- With SELECTIVE_MULTIVIEW. Passes: 0 Clear with Store under mask 1, which names the first layer alone; 1 Clear with Store under no mask, which names none; 2 Load
+-- with Store under mask 3.
+abbrev maskFile : List ℕ
+maskFile = stereoFile 7 (stereo 1 1 0 ∷ stereo 0 1 0 ∷ stereo 3 0 0 ∷ [])
 
-pub not-layers : Fails layersFile
+-- Not masked: the second layer is marked filled, though the pass does not draw it;
+pub not-masked : Fails maskFile (pass 0 ∷ submit ∷ []) true false
 unfolding computing
-not-layers = marked-wrong layersFile (pass 0 ∷ submit ∷ pass 1 ∷ submit ∷ []) 4 (surfaceAt 0 0 1 0) true refl (record { texture = omega arith; mip = omega arith; layer = omega arith; slice = omega arith }) refl refl
+not-masked = record {
+  readable = refl;
+  strict = refl;
+  masked = refl;
+  fails = marked-wrong maskFile (pass 0 ∷ submit ∷ []) 2 (surfaceAt 0 0 1 0) true (record { texture = omega arith; mip = omega arith; layer = omega arith; slice = omega arith }) refl refl;
+}
+
+-- and so is the first, where there is no mask.
+pub no-mask : Fails maskFile (pass 1 ∷ submit ∷ []) true false
+unfolding computing
+no-mask = record {
+  readable = refl;
+  strict = refl;
+  masked = refl;
+  fails = marked-wrong maskFile (pass 1 ∷ submit ∷ []) 2 (surfaceAt 0 0 0 0) true (record { texture = omega arith; mip = omega arith; layer = omega arith; slice = omega arith }) refl refl;
+}
+
+-- What was there then shows in a load: of the second layer, and of both.
+pub unnamed-shown : (runOf maskFile (pass 0 ∷ submit ∷ pass 2 ∷ submit ∷ []) ∷ runOf maskFile (pass 1 ∷ submit ∷ pass 2 ∷ submit ∷ []) ∷ [])
+    ≡ (((1 ∷ []) ∷ (100 ∷ 5 ∷ []) ∷ []) ∷ ([] ∷ (5 ∷ 5 ∷ []) ∷ []) ∷ [])
+unfolding computing
+unnamed-shown = refl

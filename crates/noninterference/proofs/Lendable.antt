@@ -12,13 +12,13 @@ use Rattle.definition.specs.Sizes.{maxDiscards, maxActions, maxClears}
 use Rattle.definition.specs.Session.{Pass, Session, surfacesOf}
 use Rattle.definition.specs.Verdict.{nowhere, isAccepted, refusedAt, unless}
 use Rattle.definition.specs.Readable.{viewsValid}
-use Rattle.definition.specs.Surfaces.{hits, firstOf, named}
+use Rattle.definition.specs.Surfaces.{hits, named}
 use Rattle.definition.specs.MemoryInit.{Lists, matching, registerInitAction, registered, discarded}
 use Rattle.definition.specs.Check.{check}
 use Rattle.definition.specs.Attachments.{Attached, rangeIn, kindOf, discards, attach, attachAll, attachments}
 use Rattle.definition.specs.Pass.{discardsFit, actionsFit, roomVerdict, newPass, passVerdict, acceptedPass, refusedPass, outcome, checkPass}
 use Rattle.definition.specs.Submission.{submitLists}
-use Rattle.definition.specs.Calls.{State, noEntries, Call, pass, submit, surfaceValid, rangeValid, surfacesValid, actionsValid, bytesValid, countsValid, lentValid, passCall, passStep, submitState, called, call, after}
+use Rattle.definition.specs.Calls.{State, noEntries, Call, pass, submit, rangeValid, surfacesValid, actionsValid, bytesValid, countsValid, lentValid, passCall, passStep, submitState, called, call, after}
 use Rattle.definition.specs.Program.{line, endsBuffer, lines}
 use Rattle.definition.specs.declared.Range.{Range}
 use Rattle.definition.specs.declared.MemoryInitKind.{MemoryInitKind}
@@ -29,12 +29,12 @@ use Rattle.laws.proofs.Verdicts.{then-left, then-right, unless-on}
 use Rattle.laws.proofs.Places.{surfaces-counted}
 use Rattle.laws.proofs.Submission.{submit-valid, bytes-long}
 use Rattle.laws.proofs.Plans.{clears-most, discards-fit}
-use Rattle.laws.proofs.Lent.{surfaces-append, actions-append, surfaces-retain, first-valid, implicits-valid}
+use Rattle.laws.proofs.Lent.{surfaces-append, actions-append, surfaces-retain, layers-valid, implicits-valid}
 use Rattle.noninterference.specs.Claim.{Fresh}
 use Rattle.noninterference.specs.Theorem.{lineOf, endState, printed}
 use Rattle.noninterference.proofs.Passes.{All, all-map}
 use Rattle.noninterference.proofs.Fresh.{fresh-valid}
-use Rattle.noninterference.proofs.Accepted.{Ranged, accepted-okay, pass-separate}
+use Rattle.noninterference.proofs.Accepted.{Ranged, pass-ranged, pass-separate}
 
 -- ── records in range
 
@@ -64,8 +64,7 @@ module _ (S : Session) where
 
   discarded-valid : (r : Range) (b : Bool) (l : Lists) → rangeValid S r ≡ true → Valid l → Valid (discarded r b l)
   discarded-valid r true l g h = record {
-    discards = surfaces-append S (l .discards) (named r)
-        ∙ and-on (surfacesValid S (l .discards)) _ (h .discards) (and-on (surfaceValid S (firstOf r)) true (first-valid S r g) refl);
+    discards = surfaces-append S (l .discards) (named r) ∙ and-on (surfacesValid S (l .discards)) _ (h .discards) (layers-valid S r g);
     actions = h .actions;
     clears = h .clears;
   }
@@ -84,7 +83,7 @@ all-valid S [] l a h = h
 all-valid S (x ∷ xs) l a h = all-valid S xs (attach x l) (a .1) (attach-valid S x l (a .0) h)
 
 pass-ranges : (S : Session) → viewsValid S ≡ true → (p : Pass) → isAccepted (check S p .verdict) ≡ true → All (RangeValid S) (attachments S p)
-pass-ranges S vs p h = all-map (Ranged S) (RangeValid S) (λ x k. inside-range S (rangeIn x) (k .range)) (attachments S p) (accepted-okay S vs p h .ranged)
+pass-ranges S vs p h = all-map (Ranged S) (RangeValid S) (λ x k. inside-range S (rangeIn x) (k .range)) (attachments S p) (pass-ranged S vs p h)
 
 -- ── what can be lent
 

@@ -30,12 +30,7 @@ unfolding texturesValid
 counted s h = leb-true (surfaceCount (session s)) maxSurfaces (and-right (texturesRead (session s) (session s .textureCount)) _ (tested s h .textures))
 
 pub demand-three : DemandThree
-demand-three s h st single =
-    fit-claim (session s) (conditions-fit (session s) (record {
-      views = tested s h .views;
-      strict = st;
-      single = single;
-    }))
+demand-three s h st = fit-claim (session s) (conditions-fit (session s) (tested s h .views) st)
 
 pub first-answers : FirstAnswers
 first-answers = Induction.first-answers

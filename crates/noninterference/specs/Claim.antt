@@ -1,14 +1,19 @@
 -- Demand 3: what is claimed of a session, for any list of calls from any fresh state and after each of them.
 use mathlib.Core.Path.{_≡_}
-use mathlib.Core.Bool.{Bool, true, false, not, _&&_}
+use mathlib.Core.Bool.{Bool, true, false, not, _&&_, _||_}
 use mathlib.Core.List.{List, [], _∷_, _++_}
 use mathlib.Core.Option.{Option, none, some}
-use Prim.Native.Nat.{ℕ}
+use Prim.Native.Nat.{ℕ, zero, suc}
+use lib.Dec.{ltb}
 use lib.ListN.{take, replicate}
+use Rattle.definition.specs.Bytes.{bit}
 use Rattle.definition.specs.Session.{Session, surfaceCount}
+use Rattle.definition.specs.Verdict.{isAccepted}
 use Rattle.definition.specs.Status.{filled}
-use Rattle.definition.specs.Calls.{State, noEntries, Call, answers, after}
+use Rattle.definition.specs.Calls.{State, noEntries, Call, pass, submit, Answer, checked, submitted, answers, after}
 use Rattle.definition.specs.declared.Surface.{Surface}
+use Rattle.definition.specs.declared.View.{View}
+use Rattle.definition.specs.declared.Attachment.{Attachment}
 use Rattle.laws.specs.Surfaces.{Inside}
 use Rattle.noninterference.specs.Memory.{Aspect, hasAspect, Part, Use, Told, Event, refused, accepted, done, events, Cells, Drawing, Contents, byteOf, useAt, loaded, cells}
 
@@ -18,6 +23,36 @@ use Rattle.noninterference.specs.Memory.{Aspect, hasAspect, Part, Use, T
 pub record Fresh (S : Session) (σ : State) : Type 0 where
   pub lists : σ .lists ≡ noEntries
   pub status : take (surfaceCount S) (σ .status) ≡ replicate (surfaceCount S) 0
+
+-- ── masks
+
+-- The mask has each bit below n.
+abbrev pub bitsSet : (mask n : ℕ) → Bool
+bitsSet mask zero = true
+bitsSet mask (suc n) = bitsSet mask n && bit mask n
+
+-- It names all layers of a view of several; and so of each view that a pass uses.
+abbrev pub namesLayers : (mask : ℕ) → View → Bool
+namesLayers mask v = ltb (v .layers) 2 || bitsSet mask (v .layers)
+
+abbrev pub namesAll : Session → (mask : ℕ) → List Attachment → Bool
+namesAll S mask [] = true
+namesAll S mask (x ∷ xs) = namesLayers mask (S .view (x .view)) && namesAll S mask xs
+
+-- A call by its answer: if it is an accepted pass, its mask does so; and so of each call.
+abbrev pub callMasked : Session → Call → Answer → Bool
+callMasked S (pass i) (checked r) = not (isAccepted (r .verdict)) || namesAll S (S .pass i .mask) (r .attachments)
+callMasked S submit (checked r) = true
+callMasked S c (submitted number status) = true
+
+abbrev pub allMasked : Session → List Call → List Answer → Bool
+allMasked S [] rest = true
+allMasked S (c ∷ cs) [] = true
+allMasked S (c ∷ cs) (a ∷ rest) = callMasked S c a && allMasked S cs rest
+
+-- Every accepted pass of the run that uses a view of several layers has a mask that names all its layers.
+abbrev pub Masked : Session → State → List Call → Type 0
+Masked S σ calls = allMasked S calls (answers S calls σ) ≡ true
 
 -- ── what the calls tell, and what they leave, from a state σ
 
@@ -84,6 +119,8 @@ pub record Hidden {Val : Type 0} (D : Drawing Val) (c c′ : Contents Val) (S : 
   pub equal : (n : ℕ) (s : Surface) → Inside S s → filled (byteAt S σ (take n calls) s) ≡ true
       → Agree S s (memoryAfter D c S σ (take n calls)) (memoryAfter D c′ S σ (take n calls))
 
--- For every type of values, drawing, contents at the start and after discards, fresh state and list of calls.
+-- For every type of values, drawing, contents at the start and after discards, fresh state, and list of calls whose masks name all layers.
 abbrev pub Claim : Session → Type 1
-Claim S = (Val : Type 0) (D : Drawing Val) (c c′ : Contents Val) (σ : State) → Fresh S σ → (calls : List Call) → Hidden D c c′ S σ calls
+Claim S =
+    (Val : Type 0) (D : Drawing Val) (c c′ : Contents Val) (σ : State) → Fresh S σ
+    → (calls : List Call) → Masked S σ calls → Hidden D c c′ S σ calls

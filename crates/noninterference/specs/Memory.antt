@@ -1,10 +1,10 @@
 -- Document 01's memory: a value for each aspect of each surface. It is fed the session, the calls in order, their answers and the status
 -- bytes after each submission; it knows nothing of the lists, nor of how a pass is judged.
-use mathlib.Core.Bool.{Bool, true, false, not, cond}
+use mathlib.Core.Bool.{Bool, true, false, not, _||_, cond}
 use mathlib.Core.List.{List, [], _∷_, _++_}
 use mathlib.Core.Option.{Option, none, some}
-use Prim.Native.Nat.{ℕ, zero, suc, _+_}
-use lib.Dec.{eqb}
+use Prim.Native.Nat.{ℕ, zero, suc, _+_, _-_}
+use lib.Dec.{ltb, eqb}
 use lib.Ieee.{Float}
 use lib.ListN.{getD}
 use Rattle.definition.specs.Bytes.{bit}
@@ -12,11 +12,13 @@ use Rattle.definition.specs.Formats.{isColor, hasDepth, hasStencil}
 use Rattle.definition.specs.Surfaces.{layersOf, elem}
 use Rattle.definition.specs.Session.{Session, Pass, isNone, textureFormat, rangeOf, attachedSlice, surfaceIndex}
 use Rattle.definition.specs.Verdict.{isAccepted}
+use Rattle.definition.specs.MemoryInit.{retain}
 use Rattle.definition.specs.Status.{cleared}
 use Rattle.definition.specs.Pass.{Reply}
 use Rattle.definition.specs.Calls.{Call, pass, submit, Answer, checked, submitted}
 use Rattle.definition.specs.declared.Color.{Color}
 use Rattle.definition.specs.declared.Surface.{Surface}
+use Rattle.definition.specs.declared.Range.{Range}
 use Rattle.definition.specs.declared.Slot.{Slot}
 use Rattle.definition.specs.declared.Attachment.{Attachment}
 
@@ -68,7 +70,7 @@ pub record Part : Type 0 where
   pub input : Input
   pub keep : Bool
 
--- An attachment: its surfaces, the aspects of each, and the divergent aspect (0 none, 1 depth, 2 stencil).
+-- An attachment: the surfaces that its pass draws, the aspects of each, and the divergent aspect (0 none, 1 depth, 2 stencil).
 pub record Use : Type 0 where
   pub surfaces : List Surface
   pub parts : List Part
@@ -100,14 +102,23 @@ useIn divergent f surfaces x =
     (record { surfaces = surfaces; parts = partIn colorAspect (x .ops) (ofColor (x .color)) ∷ []; divergent = 0 })
     (record { surfaces = surfaces; parts = depthStencilParts f x; divergent = divergent })
 
-abbrev pub useOf : Session → (divergent slice : ℕ) → Attachment → Use
-useOf S divergent slice x = useIn divergent (textureFormat S (S .view (x .view))) (layersOf (rangeOf (S .view (x .view)) slice)) x
+-- A pass with a mask draws a layer of a range: of several those whose bits the mask has, the first layer's being bit 0; a single one whatever the mask.
+abbrev pub draws : (mask : ℕ) → Range → Surface → Bool
+draws mask r s = ltb (r .layers) 2 || bit mask (s .layer - r .layer)
+
+-- Those that it draws.
+abbrev pub drawn : (mask : ℕ) → Range → List Surface
+drawn mask r = retain (draws mask r) (layersOf r)
+
+-- An attachment at a slice, in a pass with the mask.
+abbrev pub useOf : Session → (mask divergent slice : ℕ) → Attachment → Use
+useOf S mask divergent slice x = useIn divergent (textureFormat S (S .view (x .view))) (drawn mask (rangeOf (S .view (x .view)) slice)) x
 
 -- Attachments, each at its slice.
-abbrev pub usesOf : Session → (divergent : ℕ) → List ℕ → List Attachment → List Use
-usesOf S divergent [] xs = []
-usesOf S divergent (k ∷ ks) [] = []
-usesOf S divergent (k ∷ ks) (x ∷ xs) = useOf S divergent k x ∷ usesOf S divergent ks xs
+abbrev pub usesOf : Session → (mask divergent : ℕ) → List ℕ → List Attachment → List Use
+usesOf S mask divergent [] xs = []
+usesOf S mask divergent (k ∷ ks) [] = []
+usesOf S mask divergent (k ∷ ks) (x ∷ xs) = useOf S mask divergent k x ∷ usesOf S mask divergent ks xs
 
 -- The slices of a pass's attachments, in the order of a reply: of a D3 colour view the slot's, else 0. Of a slot, of the first n slots, of the pass.
 abbrev pub slotSlices : Session → Slot → List ℕ
@@ -120,9 +131,9 @@ slotsSlices S p (suc n) = slotsSlices S p n ++ slotSlices S (p .slot n)
 abbrev pub passSlices : Session → Pass → List ℕ
 passSlices S p = cond (isNone (p .depthStencil)) [] (0 ∷ []) ++ slotsSlices S p (p .colors)
 
--- The pass of call n, which has its attachments at the slices.
-abbrev pub told : Session → (n : ℕ) → List ℕ → Reply → Told
-told S n slices r = record { number = n; uses = usesOf S (r .divergent) slices (r .attachments); clears = r .clears }
+-- The pass p of call n, by its reply, which names neither the mask nor the slices.
+abbrev pub told : Session → (n : ℕ) → Pass → Reply → Told
+told S n p r = record { number = n; uses = usesOf S (p .mask) (r .divergent) (passSlices S p) (r .attachments); clears = r .clears }
 
 -- ── what the answers tell
 
@@ -131,14 +142,10 @@ pub data Event : Type 0 where
   accepted : Told → Event
   done : List ℕ → Event
 
--- The slices of a call's pass.
-abbrev pub slicesOf : Session → Call → List ℕ
-slicesOf S (pass i) = passSlices S (S .pass i)
-slicesOf S submit = []
-
--- A refused call does nothing, a pass waits, a submission gives the status bytes.
+-- A refused call does nothing, a pass waits, a submission gives the status bytes. (No submission is answered as a pass is.)
 abbrev pub event : Session → ℕ → Call → Answer → Event
-event S n c (checked r) = cond (isAccepted (r .verdict)) (accepted (told S n (slicesOf S c) r)) refused
+event S n (pass i) (checked r) = cond (isAccepted (r .verdict)) (accepted (told S n (S .pass i) r)) refused
+event S n submit (checked r) = refused
 event S n c (submitted number status) = cond (eqb number 0) (done status) refused
 
 -- The calls in order, from call n on, with their answers.

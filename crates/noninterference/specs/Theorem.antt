@@ -2,7 +2,7 @@
 use mathlib.Core.Path.{_≡_}
 use mathlib.Core.Bool.{Bool, true, false, cond}
 use mathlib.Core.List.{List, [], _∷_, _++_}
-use Prim.Native.Nat.{ℕ, zero, suc, _+_, _<_}
+use Prim.Native.Nat.{ℕ, zero, suc, _+_}
 use lib.ListN.{take}
 use Rattle.definition.specs.Session.{Session, session, strict}
 use Rattle.definition.specs.Readable.{sessionRefusal}
@@ -13,12 +13,11 @@ use Rattle.definition.specs.declared.Surface.{Surface}
 use Rattle.laws.specs.Surfaces.{Inside}
 use Rattle.noninterference.specs.Claim.{Fresh, byteAt, Claim}
 
--- Document 01's conditions: P of every byte string that is a readable session with the strict flag and one-layer views.
+-- The condition on a session: P of every byte string that is a readable session with the strict flag.
 abbrev pub OfStrictSessions : (List ℕ → Type 1) → Type 1
 OfStrictSessions P =
     (s : List ℕ) → sessionRefusal s ≡ 0
     → strict (session s) ≡ true
-    → ((k : ℕ) → k < session s .viewCount → session s .view k .layers ≡ 1)
     → P s
 
 -- Demand 3.

@@ -1,4 +1,4 @@
-// A range of surfaces, as the lists of a command buffer have it: which surfaces it has, the first of them, and one surface as a range.
+// A range of surfaces, as the lists of a command buffer have it: which surfaces it has, those of its layers, and one surface as a range.
 use definition::Range;
 use definition::Surface;
 ghost use mathlib.Core.Path.{_≡_};
@@ -21,14 +21,14 @@ pub fn hits(range: Range, s: Surface) -> bool
         & within(range.layer, range.layers, s.layer)
 }
 
-// The surface that a discard of the range names: its first mip and layer, at its slice.
-pub fn first_of(range: Range) -> Surface
-    ensures { λ r. ⌜ r ≡ Surfaces.firstOf range ⌝ }
+// A layer of the range's first mip, at its slice.
+pub fn layer_at(range: Range, layer: u32) -> Surface
+    ensures { λ r. ⌜ r ≡ Surfaces.surfaceAt (range .texture) (range .mip) layer (range .slice) ⌝ }
 {
     Surface {
         texture: range.texture,
         mip: range.mip,
-        layer: range.layer,
+        layer: layer,
         slice: range.slice,
     }
 }

@@ -32,7 +32,7 @@ use Rattle.attachments.proofs.DepthStencil.{depth-first, stencil-first, diverge
 use Rattle.definition.specs.Sizes.{maxClears, surfaceBytes, actionBytes}
 use Rattle.render_pass.specs.declared.Reply.{Reply}
 use Rattle.render_pass.specs.Outcome.{replied, roomBy, Checkable, Checked}
-use Rattle.render_pass.proofs.Outcome.{room-told, few-returned, together-fits, left-together, refused-by-start, refused-by-room, accepted-pass}
+use Rattle.render_pass.proofs.Outcome.{few-layered, room-told, few-returned, together-fits, left-together, refused-by-start, refused-by-room, accepted-pass}
 
 module _ (S : Session) (p : Pass) (b : ListBytes) (asked : Checkable S b) where
   -- The discards are in their room.
@@ -71,6 +71,7 @@ module _ (S : Session) (p : Pass) (b : ListBytes) (asked : Checkable S b) where
         tallied = counted;
         long = asked .long;
         held = held;
+        layers = few-layered S p (asked .textures) (asked .views) ok (plansIn x) (resolved .plans);
         fits = together-fits (attachments S p) (plansIn x) t (listsIn b) (resolved .plans) (pass-separate S (asked .views) p ok) counted (countIn (b .actions)) actions-in (ap isAccepted (sym told) ∙ h) (asked .fits .discards);
       }
 

@@ -3,25 +3,28 @@ use Prim.Native.Nat.{ℕ, _+_, _≤_}
 use native.Mathlib.Omega.{arith}
 use mathlib.Core.Path.{_≡_, refl, sym, ap, subst, _∙_}
 use mathlib.Core.Bool.{Bool, true, false, cond}
-use mathlib.Core.List.{List, _++_, map}
+use mathlib.Core.List.{List, [], _∷_, _++_, map}
 use lib.Dec.{leb}
 use lib.ListN.{length, length-append}
 use borrow.Author.Tests.{leb-true}
 use Rattle.definition.specs.Sizes.{maxSlots, maxDiscards, maxActions, maxClears}
 use Rattle.definition.specs.Session.{Pass, Session}
 use Rattle.definition.specs.Verdict.{nowhere, isAccepted, _then_, unless}
-use Rattle.definition.specs.Readable.{passValid}
+use Rattle.definition.specs.Readable.{texturesValid, viewsValid, passValid}
 use Rattle.definition.specs.Check.{check}
 use Rattle.definition.specs.MemoryInit.{Lists}
-use Rattle.definition.specs.Attachments.{Attached, depthStencilPart, slotParts, attachAll, attachments}
+use Rattle.definition.specs.Attachments.{Attached, rangeIn, depthStencilPart, slotParts, attachAll, attachments}
 use Rattle.definition.specs.Pass.{roomVerdict, newPass, passVerdict, acceptedPass, refusedPass, outcome, checkPass}
 use Rattle.definition.specs.declared.Verdict.{Verdict}
 use Rattle.definition.specs.declared.Progress.{Progress}
 use Rattle.laws.specs.Separate.{Separate}
-use Rattle.laws.specs.Plans.{Plan, planOf, leavingAll, stayingAll, addedAll, listedAll, stepsFit, together}
+use Rattle.laws.specs.Plans.{Plan, planOf, leavingAll, stayingAll, addedAll, listedAll, stepsFit, together, Layered}
+use Rattle.laws.proofs.Readable.{few-layers}
 use Rattle.laws.proofs.Tests.{clash, cond-on, cond-off}
 use Rattle.laws.proofs.Verdicts.{then-left, then-right, then-stop, then-go, unless-on}
 use Rattle.laws.proofs.Plans.{attach-together, room-counted, staying-count, steps-end, returned-most}
+use Rattle.noninterference.proofs.Passes.{All}
+use Rattle.noninterference.proofs.Accepted.{Ranged, accepted-okay}
 use Rattle.session_validation.proofs.Valid.{valid-pass}
 use Rattle.lists.specs.Lent.{Fits}
 use Rattle.memory_init.specs.declared.tally.Tally.{Tally}
@@ -43,6 +46,16 @@ few-colors S p h = go (passValid S p) refl
 pub all-attached : (S : Session) (p : Pass) (n : ℕ) → n ≡ p .colors → depthStencilPart S p ++ slotParts S p n ≡ attachments S p
 unfolding attachments
 all-attached S p n e = ap (λ (q : ℕ). depthStencilPart S p ++ slotParts S p q) e
+
+-- Each attachment's range lies inside its texture, which has few layers.
+ranged-layers : (S : Session) → texturesValid S ≡ true → (xs : List Attached) → All (Ranged S) xs → Layered (map planOf xs)
+ranged-layers S h [] a = tt
+ranged-layers S h (x ∷ xs) a = (omega (arith, a .0 .range .layers, few-layers S h (rangeIn x .texture) (a .0 .range .texture)), ranged-layers S h xs (a .1))
+
+-- So that the layers of an accepted pass are few.
+pub few-layered : (S : Session) (p : Pass) → texturesValid S ≡ true → viewsValid S ≡ true → isAccepted (check S p .verdict) ≡ true
+    → (ps : List Plan) → ps ≡ map planOf (attachments S p) → Layered ps
+few-layered S p textures views h ps are = subst Layered (sym are) (ranged-layers S textures (attachments S p) (accepted-okay S views p h .ranged))
 
 -- ── 49 and 50
 

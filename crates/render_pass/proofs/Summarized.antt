@@ -31,7 +31,7 @@ use Rattle.attachments.specs.Resolved.{PlansOf}
 use Rattle.render_pass.specs.declared.summary.PassSummary.{PassSummary}
 use Rattle.render_pass.specs.Outcome.{roomBy}
 use Rattle.render_pass.specs.Summary.{refusedSummary, summary, StandFor, Summarizable, Summarized}
-use Rattle.render_pass.proofs.Outcome.{room-told, few-actions, few-discards, few-returned, left-together, refused-by-start, refused-by-room, accepted-pass}
+use Rattle.render_pass.proofs.Outcome.{few-layered, room-told, few-actions, few-discards, few-returned, left-together, refused-by-start, refused-by-room, accepted-pass}
 
 -- Lists for which d and a actions stand, whichever these are.
 abbrev some-action : Action
@@ -78,6 +78,7 @@ module _ (S : Session) (p : Pass) (d : List ℕ) (a : ℕ) (asked : Summarizable
       lendable = record {
         held = asked .held;
         counted = counted .leaving;
+        layers = few-layered S p (asked .textures) (asked .views) ok (plansIn x) (resolved .plans);
         room = record { bytes = omega (arith, discards-after, asked .held .long); small = omega (arith, discards-after) };
       }
 

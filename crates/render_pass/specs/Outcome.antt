@@ -7,7 +7,7 @@ use lib.Dec.{leb}
 use lib.ListN.{length}
 use Rattle.definition.specs.Sizes.{maxActions, maxAttachments}
 use Rattle.definition.specs.Session.{Pass, Session}
-use Rattle.definition.specs.Readable.{viewsValid}
+use Rattle.definition.specs.Readable.{texturesValid, viewsValid}
 use Rattle.definition.specs.Verdict.{nowhere, _then_, unless}
 use Rattle.definition.specs.Pass as Def
 use Rattle.definition.specs.Pass.{checkPass}
@@ -38,8 +38,9 @@ replied r = record {
 unfoldable pub roomBy : Tally → ℕ → Verdict
 roomBy t actions = unless (t .fits) 49 nowhere then unless (leb (actions + t .added) maxActions) 50 nowhere
 
--- What a check asks: valid views, and lent lists that are long enough and in their room.
+-- What a check asks: valid textures and views, and lent lists that are long enough and in their room.
 pub record Checkable (S : Session) (b : ListBytes) : Type 0 where
+  pub textures : texturesValid S ≡ true
   pub views : viewsValid S ≡ true
   pub long : Long b
   pub fits : Fits (listsIn b)

@@ -6,7 +6,7 @@ use mathlib.Core.List.{List}
 use lib.ListN.{length}
 use Rattle.definition.specs.Sizes.{maxActions, maxClears}
 use Rattle.definition.specs.Session.{Pass, Session}
-use Rattle.definition.specs.Readable.{viewsValid}
+use Rattle.definition.specs.Readable.{texturesValid, viewsValid}
 use Rattle.definition.specs.MemoryInit.{Lists}
 use Rattle.definition.specs.Pass.{Outcome, checkPass}
 use Rattle.definition.specs.declared.Verdict.{Verdict}
@@ -33,8 +33,9 @@ pub record StandFor (d : List ℕ) (n : ℕ) (l : Lists) : Type 0 where
   pub discards : surfacesIn d ≡ l .discards
   pub actions : n ≡ length (l .actions)
 
--- Valid views, and discards and actions in their room.
+-- Valid textures and views, and discards and actions in their room.
 pub record Summarizable (S : Session) (d : List ℕ) (n : ℕ) : Type 0 where
+  pub textures : texturesValid S ≡ true
   pub views : viewsValid S ≡ true
   pub held : DiscardsInRoom d
   pub actions : n ≤ maxActions

@@ -15,12 +15,11 @@ use text::put_line;
 use text::put_refusal;
 use whole_session::next_row;
 ghost use mathlib.Core.Path.{_≡_};
-ghost use mathlib.Core.Bool.{true};
 ghost use mathlib.Core.List.{List};
 ghost use Prim.Native.Nat.{ℕ, _*_, _≤_};
 ghost use lib.ListN.{length, take};
 ghost use Rattle.definition.specs.Session.{session};
-ghost use Rattle.definition.specs.Readable.{viewsValid};
+ghost use Rattle.definition.specs.Readable.{sessionRefusal};
 ghost use Rattle.whole_session.specs.Rows.{firstRows, Reached};
 ghost use Rattle.report.specs.Text.{lineBytes, linesText, printedBytes};
 ghost use Rattle.report.specs.Put.{Put};
@@ -33,7 +32,7 @@ pub const PRINTED_BYTES: usize = LINE_BYTES * (MAX_PASSES as usize);
 
 // The lines of so many passes, at the front: each pass is judged, and its line is written, from no discards and no actions on.
 fn put_lines(s: &[u8], passes: u32, discards: &mut [u8], out: &mut [u8]) -> usize
-    requires { ⌜ viewsValid (session (now s)) ≡ true ⌝ }
+    requires { ⌜ sessionRefusal (now s) ≡ 0 ⌝ }
     requires { ⌜ Reached (session (now s)) passes 0 (now discards) 0 ⌝ }
     requires { ⌜ lineBytes * passes ≤ length (now out) ⌝ }
     ensures { λ r. ⌜

@@ -15,12 +15,11 @@ use session::header::pass_count;
 use session::pass_row;
 use words::write_numbers;
 ghost use mathlib.Core.Path.{_≡_};
-ghost use mathlib.Core.Bool.{true};
 ghost use Prim.Native.Nat.{_+_, _-_, _*_, _≤_, _<_};
 ghost use lib.ListN.{length, drop};
 ghost use Rattle.definition.specs.Sizes.{rowBytes, rowsBytes};
 ghost use Rattle.definition.specs.Session.{session};
-ghost use Rattle.definition.specs.Readable.{viewsValid, sessionRefusal};
+ghost use Rattle.definition.specs.Readable.{sessionRefusal};
 ghost use Rattle.definition.specs.Program.{endsBuffer};
 ghost use Rattle.session.specs.Rows.{passIn};
 ghost use Rattle.whole_session.specs.Rows.{rowsIn, firstRows, Reached, Advances};
@@ -39,9 +38,9 @@ fn ends_buffer(s: &[u8], pass: PassRow, k: u32, passes: u32) -> bool
     (ends(s, pass) == 1) | (k + 1 == passes)
 }
 
-// The row of pass k of so many; the discards and the actions are then those from which the next pass starts.
+// The row of pass k of so many of a readable session; the discards and the actions are then those from which the next pass starts.
 pub fn next_row(s: &[u8], k: u32, passes: u32, discards: &mut [u8], actions: usize) -> Row
-    requires { ⌜ (viewsValid (session (now s)) ≡ true) × (k < passes) ⌝ }
+    requires { ⌜ (sessionRefusal (now s) ≡ 0) × (k < passes) ⌝ }
     requires { ⌜ Reached (session (now s)) passes k (now discards) actions ⌝ }
     ensures { λ r. ⌜ Advances (session (now (s .entry))) passes k r (now (discards .exit)) ⌝ }
 {
@@ -72,9 +71,9 @@ pub fn next_row(s: &[u8], k: u32, passes: u32, discards: &mut [u8], actions: usi
     }
 }
 
-// The rows of so many passes as bytes, from no discards and no actions.
+// The rows of so many passes of a readable session as bytes, from no discards and no actions.
 fn put_rows(s: &[u8], passes: u32, rows: &mut [u8], discards: &mut [u8])
-    requires { ⌜ viewsValid (session (now s)) ≡ true ⌝ }
+    requires { ⌜ sessionRefusal (now s) ≡ 0 ⌝ }
     requires { ⌜ Reached (session (now s)) passes 0 (now discards) 0 ⌝ }
     requires { ⌜ rowBytes * passes ≤ length (now rows) ⌝ }
     ensures { λ _. ⌜ rowsIn (now (rows .exit)) passes ≡ firstRows (session (now (s .entry))) passes passes ⌝ }

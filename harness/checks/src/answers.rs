@@ -3,7 +3,7 @@
 
 use std::collections::BTreeMap;
 
-use compare::rust;
+use compare::agreed;
 use interface::{surface_fields, Desk, Lists, Reply};
 use sessions::colour_bytes::targets;
 use sessions::layout::{COUNT_LEN, FIELD_LEN, NONE, SLOTS};
@@ -12,7 +12,7 @@ use sessions::random::{self, Prng};
 use sessions::reply::{Answer, Judged};
 use sessions::{damage, enumerate, reader, text, Pass, Session};
 
-use crate::expected::{answer, reply_record};
+use crate::expected::reply_record;
 use crate::reference::row_numbers;
 
 /// Seed and sessions of the committed list.
@@ -27,12 +27,11 @@ pub struct Record {
 }
 
 impl Record {
-    /// A session with the Rust's answers.
+    /// A session with the answer that the Rust agrees with.
     pub fn new(session: Vec<u8>) -> Record {
-        let model = model::run(&session);
-        let expected = answer(&session, rust(&session, &model), &model);
+        let answer = agreed(&session).unwrap_or_else(|difference| panic!("{difference}"));
         Record {
-            words: words(&expected),
+            words: words(&answer),
             session,
         }
     }
@@ -99,20 +98,21 @@ fn packed(bytes: &[u8]) -> impl Iterator<Item = u32> + '_ {
     })
 }
 
-/// Sessions of the list that are of the systematic set of slices.
-const SLICED: usize = 48;
+/// Sessions of the list that are of the systematic set of slices, and as many of that of layers.
+const SYSTEMATIC: usize = 48;
 /// How often a kind of pass is wanted.
-const OFTEN: u32 = 6;
+const OFTEN: u32 = 4;
 /// Largest record of the list, in bytes.
 const LARGEST: usize = 2_000;
 
-/// A list of sessions from a seed: document 01's example and buffers of slices, then small sessions,
-/// those that show something rare first; one of twelve is damaged.
+/// A list of sessions from a seed: document 01's example and pairs of passes of slices and of layers, then
+/// small sessions, those that show something rare first; one of twelve is damaged.
 pub fn list(seed: u64, sessions: usize) -> Vec<Record> {
     let mut prng = Prng::new(seed);
     let mut seen: BTreeMap<Kind, u32> = BTreeMap::new();
     let mut all = vec![Record::new(text::document_01())];
-    all.extend((0..SLICED).map(|_| Record::new(buffer_of_slices(&mut prng))));
+    all.extend(systematic(&enumerate::slices_in_passes(), &mut prng));
+    all.extend(systematic(&enumerate::layers_in_passes(), &mut prng));
     while all.len() < sessions {
         let record = Record::new(candidate(&mut prng));
         let kinds = kinds(&record.session);
@@ -159,13 +159,18 @@ fn fits_unaligned(session: &Session, pass: &Pass) -> bool {
     costs.sum::<u32>() <= session.colour_bytes
 }
 
-/// A buffer of two passes of the systematic set of slices.
-fn buffer_of_slices(prng: &mut Prng) -> Vec<u8> {
-    let sets = enumerate::slices_in_passes();
+/// Pairs of passes of a systematic set.
+fn systematic(sets: &[Session], prng: &mut Prng) -> Vec<Record> {
+    let record = |_| Record::new(two_passes(sets, prng));
+    (0..SYSTEMATIC).map(record).collect()
+}
+
+/// Two passes of a systematic set, with the rows that they name.
+fn two_passes(sets: &[Session], prng: &mut Prng) -> Vec<u8> {
     let mut session = sets[prng.below(sets.len() as u32) as usize].clone();
-    let buffer = prng.below(session.passes.len() as u32 / 2) as usize;
-    session.passes = session.passes[2 * buffer..2 * buffer + 2].to_vec();
-    session.to_bytes()
+    let pair = prng.below(session.passes.len() as u32 / 2) as usize;
+    session.passes = session.passes[2 * pair..2 * pair + 2].to_vec();
+    only_named_rows(&session).to_bytes()
 }
 
 /// A small session: some passes of a random one with the rows that they name.

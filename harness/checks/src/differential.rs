@@ -5,16 +5,16 @@
 use std::fmt;
 
 use compare::reduce::reduce;
-use compare::{rust, Counts};
+use compare::{agreed, Counts};
 use interface::{Desk, Lists};
 use sessions::layout::COUNT_LEN;
 use sessions::random::{self, Prng};
 use sessions::reader;
-use sessions::reply::{first_difference, Answer, Judged};
+use sessions::reply::{Answer, Judged};
 use sessions::text;
 
 use crate::calls::{difference, make, Call, Outcome, Seen};
-use crate::expected::{after_pass, after_submission, answer, reply_record};
+use crate::expected::{after_pass, after_submission, reply_record};
 use crate::surfaces;
 use crate::variants;
 use crate::whole;
@@ -45,8 +45,8 @@ pub fn hold(
     prng: &mut Prng,
     tally: &mut Tally,
 ) -> Result<(), String> {
-    let (expected, model) = expected_answer(bytes)?;
-    tally.answers.add(bytes, &model);
+    let expected = agreed(bytes).map_err(|wrong| format!("{wrong}{}", the_file(bytes)))?;
+    tally.answers.add(bytes, &expected);
     let filled = fresh(bytes, prng);
     let Ok(states) = held(desk, bytes, &expected, &filled) else {
         return Err(smallest(desk, bytes, &filled));
@@ -66,16 +66,6 @@ fn held(
     let states = walk(desk, bytes, expected, fresh)?;
     whole::hold(desk, bytes)?;
     Ok(states)
-}
-
-/// The answers to hold the file to, and the model's.
-fn expected_answer(bytes: &[u8]) -> Result<(Answer, Answer), String> {
-    let model = model::run(bytes);
-    let rust = rust(bytes, &model);
-    match first_difference(bytes, &rust, &model) {
-        None => Ok((answer(bytes, rust, &model), model)),
-        Some(wrong) => Err(format!("{wrong}{}", the_file(bytes))),
-    }
 }
 
 /// Fresh lists: counts and the surfaces' status 0. In half of the cases the buffers are longer than
@@ -176,7 +166,7 @@ fn submission(
 
 /// The first thing that is wrong with the answers to a file, if any.
 fn fault(desk: &dyn Desk, bytes: &[u8], fresh: &Lists) -> Option<String> {
-    let (expected, _) = expected_answer(bytes).ok()?;
+    let expected = agreed(bytes).ok()?;
     held(desk, bytes, &expected, fresh).err()
 }
 

@@ -1,40 +1,11 @@
 //! What a call should answer and leave, in the form of the C interface.
 
-use compare::has_volume;
 use interface::{action_fields, put_records, surface_fields, Attachment, Color, Lists, Reply};
 use sessions::layout::{ACTION_FIELDS, NO_PLACE, SURFACE_FIELDS};
-use sessions::reply::{self, Answer, Judged, Part};
+use sessions::reply::{self, Judged, Part};
 
 /// The bits that every NaN colour comes back with.
 pub const CANONICAL_NAN: u64 = 0x7ff8_0000_0000_0000;
-
-/// The answers to a file: the Rust's, with the model's places where it tells none, and the model's
-/// for what is withheld from the comparison. Where the file has a 3D texture, clears, lists and status
-/// bytes are the model's.
-pub fn answer(bytes: &[u8], rust: Answer, model: &Answer) -> Answer {
-    let (Ok(rust), Ok(model)) = (rust, model) else {
-        return model.clone();
-    };
-    let volume = has_volume(bytes);
-    let rows = rust.into_iter().zip(model);
-    Ok(rows.map(|(rust, model)| row(rust, model, volume)).collect())
-}
-
-/// One pass of them.
-fn row(rust: Judged, model: &Judged, volume: bool) -> Judged {
-    if model.reply.withheld() {
-        return model.clone();
-    }
-    let mut told = rust;
-    told.reply.place = told.reply.place.or(model.reply.place);
-    told.reply.earlier = told.reply.earlier.or(model.reply.earlier);
-    if volume {
-        told.reply.clears = model.reply.clears.clone();
-        told.lists = model.lists.clone();
-        told.submitted = model.submitted.clone();
-    }
-    told
-}
 
 /// A reply as the record of the C interface.
 pub fn reply_record(r: &reply::Reply) -> Reply {

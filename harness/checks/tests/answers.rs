@@ -6,10 +6,11 @@ use std::fs;
 use checks::answers::{from_bytes, list, replay, to_bytes, Record, SEED, SESSIONS};
 use checks::examples::repository;
 use checks::reference::Model;
-use compare::has_volume;
+use compare::{first_layers, has_layers, has_volume};
+use model::submission::{CLEARED, FILLED};
 use sessions::colour_bytes::{sum, targets};
 use sessions::reader::read;
-use sessions::reply::{Action, Lists, Surface};
+use sessions::reply::{Action, Judged, Lists, Surface};
 
 /// The committed list.
 fn committed() -> Vec<u8> {
@@ -111,6 +112,34 @@ fn it_shows_slices() {
     let shown = [listed, cleared, stays];
     assert!(shown.iter().all(|times| *times >= 3), "{shown:?}");
     assert!(volumes > 60, "{volumes}");
+}
+
+#[test]
+fn it_shows_layers() {
+    let (mut layered, mut shown) = (0, [0; 4]);
+    for record in from_bytes(&committed()).unwrap() {
+        let model = model::run(&record.session);
+        let first = first_layers(&record.session, &model).unwrap_or_default();
+        layered += u32::from(has_layers(&record.session));
+        for (row, first) in model.unwrap_or_default().iter().zip(&first) {
+            let kinds = [
+                row.lists.discards.len() > first.lists.discards.len(),
+                row.reply.clears.len() > first.reply.clears.len(),
+                statuses(row, first).any(|(ours, rusts)| (ours ^ rusts) & FILLED != 0),
+                statuses(row, first).any(|(ours, rusts)| (ours ^ rusts) & CLEARED != 0),
+            ];
+            let counted = shown.iter_mut().zip(kinds);
+            counted.for_each(|(times, kind)| *times += u32::from(kind));
+        }
+    }
+    assert!(shown.iter().all(|times| *times >= 3), "{shown:?}");
+    assert!(layered > 100, "{layered}");
+}
+
+/// The status bytes after a submission, with those of another row.
+fn statuses<'a>(row: &'a Judged, other: &'a Judged) -> impl Iterator<Item = (&'a u8, &'a u8)> {
+    let (ours, others) = (row.submitted.iter(), other.submitted.iter());
+    ours.flatten().zip(others.flatten())
 }
 
 #[test]

@@ -79,8 +79,14 @@ fn session(prng: &mut Prng) -> Session {
     session
 }
 
-/// The slice's part in a pass: what is loaded or kept is listed no more, then a discard is listed.
-fn step(records: &mut [TextureSurfaceDiscard], n: usize, view: &View, slot: &Slot) -> usize {
+/// The slice's part in a pass: what is loaded or kept is listed no more, then each layer of a discarded view
+/// is listed. The new count, and whether all layers had room.
+fn step(
+    records: &mut [TextureSurfaceDiscard],
+    n: usize,
+    view: &View,
+    slot: &Slot,
+) -> (usize, bool) {
     let range = TextureInitRange {
         texture: view.texture,
         mip: view.base_mip,
@@ -89,10 +95,10 @@ fn step(records: &mut [TextureSurfaceDiscard], n: usize, view: &View, slot: &Slo
         layers: view.layer_count,
         slice: slot.slice,
     };
-    let first = TextureSurfaceDiscard {
+    let surface = |layer: u32| TextureSurfaceDiscard {
         texture: view.texture,
         mip: view.base_mip,
-        layer: view.base_layer,
+        layer,
         slice: slot.slice,
     };
     let kept = if slot.load == LOAD || slot.store == STORE {
@@ -100,11 +106,16 @@ fn step(records: &mut [TextureSurfaceDiscard], n: usize, view: &View, slot: &Slo
     } else {
         n
     };
-    if slot.store == DISCARD {
-        discard(records, kept, first)
+    let discarded = if slot.store == DISCARD {
+        view.layer_count
     } else {
-        kept
-    }
+        0
+    };
+    let layers = view.base_layer..view.base_layer + discarded;
+    layers.fold((kept, true), |(n, room), layer| {
+        let after = discard(records, n, surface(layer));
+        (after, room && after > n)
+    })
 }
 
 /// The flat list's discards, as records.
@@ -138,17 +149,20 @@ fn slices_and_flat_lists_do_not_differ() {
             let slot = &pass.slots[0];
             let view = &session.views[slot.view as usize];
             let reply = desk::check_pass(&file, number as u32, &mut lists);
+            let mut tried = records;
+            let (after, room) = step(&mut tried, n, view, slot);
             if reply.number == NO_ROOM {
                 full += 1;
-                let mut tried = records;
-                assert_eq!(step(&mut tried, n, view, slot), n, "no room in the slice");
-                assert_eq!(tried, records);
+                assert_eq!((after, room), (DISCARDS, false), "no room in the slice");
             } else {
-                assert_eq!(reply.number, 0, "pass {number} of {session:?}");
-                let after = step(&mut records, n, view, slot);
+                assert_eq!(
+                    (reply.number, room),
+                    (0, true),
+                    "pass {number} of {session:?}"
+                );
                 listed += u32::from(after > n);
                 removed += u32::from(after < n);
-                n = after;
+                (records, n) = (tried, after);
             }
             assert_eq!(flat(&lists), records[..n], "after pass {number}");
         }

@@ -4,6 +4,7 @@
 use sessions::layout::*;
 use sessions::reply::{deskcheck_lines, Action, Answer, Judged, Lists, Reply, Surface};
 
+use crate::lists::Listed;
 use crate::pass;
 use crate::read::{self, Session};
 use crate::submission;
@@ -84,18 +85,18 @@ fn open(bytes: &[u8], lent: &Lent) -> Result<Session, u32> {
 /// Checks one pass. A refusal leaves everything lent as found.
 pub fn check_pass(bytes: &[u8], number: usize, lent: &mut Lent) -> Reply {
     match open(bytes, lent) {
-        Ok(session) => judge(&session, number, lent),
+        Ok(session) => judge(&session, number, lent, Listed::Every),
         Err(refusal) => Reply::refused(refusal, Some(NO_PLACE), Some(NO_PLACE)),
     }
 }
 
 /// Judges a pass of a readable session; a pass number at or past the count is a 5.
-fn judge(session: &Session, number: usize, lent: &mut Lent) -> Reply {
+fn judge(session: &Session, number: usize, lent: &mut Lent, listed: Listed) -> Reply {
     let row = session.passes.get(number);
     let Some(pass) = row.and_then(|row| row.pass.as_ref()) else {
         return Reply::refused(5, Some(NO_PLACE), Some(NO_PLACE));
     };
-    match pass::judge(session, pass, &lent.lists) {
+    match pass::judge(session, pass, &lent.lists, listed) {
         Ok(accepted) => {
             lent.lists = accepted.lists;
             lent.clears = accepted.reply.clears.clone();
@@ -132,10 +133,24 @@ pub fn surface_index(bytes: &[u8], surface: &Surface) -> Result<u32, u32> {
 
 /// The whole session from fresh lists: each pass judged, each buffer submitted at its end.
 pub fn run(bytes: &[u8]) -> Answer {
+    run_listing(bytes, Listed::Every, |_| None)
+}
+
+/// The same with the first layer alone of each discarded view listed, as the Rust has it; `full` tells
+/// the passes that 49 or 50 refuses.
+pub fn run_first_layers(bytes: &[u8], full: impl Fn(usize) -> Option<u32>) -> Answer {
+    run_listing(bytes, Listed::First, full)
+}
+
+/// The whole session with these layers listed and these passes refused.
+fn run_listing(bytes: &[u8], listed: Listed, full: impl Fn(usize) -> Option<u32>) -> Answer {
     let session = read::session(bytes)?;
     let mut lent = Lent::fresh();
     let judged = |pass: usize| {
-        let reply = judge(&session, pass, &mut lent);
+        let reply = match full(pass) {
+            Some(number) => Reply::refused(number, Some(NO_PLACE), Some(NO_PLACE)),
+            None => judge(&session, pass, &mut lent, listed),
+        };
         let lists = lent.lists.clone();
         let submitted = session.ends_buffer(pass).then(|| {
             submit_lent(&session, &mut lent);

@@ -11,4 +11,4 @@ pub mod submission;
 pub mod verdict;
 pub mod views;
 
-pub use calls::{check_pass, deskcheck, run, submit, surface_index, Lent};
+pub use calls::{check_pass, deskcheck, run, run_first_layers, submit, surface_index, Lent};

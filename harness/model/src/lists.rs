@@ -34,8 +34,18 @@ fn action(view: &View, slice: u32, kind: Kind) -> Action {
     }
 }
 
+/// Which layers of a discarded view are listed.
+#[derive(Clone, Copy, Debug)]
+pub enum Listed {
+    /// Each of them, lowest first.
+    Every,
+    /// The first alone, as the Rust has it.
+    First,
+}
+
 /// The lists while a pass is recorded.
 pub struct Recording {
+    listed: Listed,
     pub lists: Lists,
     pub clears: Vec<Surface>,
     /// The greatest length that the discard list has had.
@@ -44,8 +54,9 @@ pub struct Recording {
 
 impl Recording {
     /// A recording that starts with the lists as found.
-    pub fn new(lists: &Lists) -> Self {
+    pub fn new(lists: &Lists, listed: Listed) -> Self {
         Recording {
+            listed,
             lists: lists.clone(),
             clears: Vec::new(),
             most_discards: lists.discards.len(),
@@ -53,21 +64,31 @@ impl Recording {
     }
 
     /// Records an attachment at a slice, 0 of a view that is not D3: first its action, then its
-    /// discard.
+    /// discards.
     pub fn attach(&mut self, view: &View, slice: u32, plan: Plan) {
         if let Some(kind) = plan.action {
             self.register(action(view, slice, kind));
         }
         if plan.discards {
-            self.lists.discards.push(Surface {
-                texture: view.texture,
-                mip: view.mips.0,
-                layer: view.layers.0,
-                slice,
-            });
-            let length = self.lists.discards.len();
-            self.most_discards = self.most_discards.max(length);
+            self.discard(view, slice);
         }
+    }
+
+    /// Lists a discarded view, all its layers in one step.
+    fn discard(&mut self, view: &View, slice: u32) {
+        let (first, end) = view.layers;
+        let layers = match self.listed {
+            Listed::Every => first..end,
+            Listed::First => first..first + 1,
+        };
+        self.lists.discards.extend(layers.map(|layer| Surface {
+            texture: view.texture,
+            mip: view.mips.0,
+            layer,
+            slice,
+        }));
+        let length = self.lists.discards.len();
+        self.most_discards = self.most_discards.max(length);
     }
 
     /// Matching discards leave the list; a needing action returns each as a clear and adds an

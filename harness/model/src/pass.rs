@@ -4,7 +4,7 @@ use sessions::layout::*;
 use sessions::reply::{aspects, usages, Attachment, Kind, Lists, Part, Reply};
 
 use crate::channels::{self, has_depth, has_stencil, operation_bits, transient_pair, Resolved};
-use crate::lists::{plan, Plan, Recording};
+use crate::lists::{plan, Listed, Plan, Recording};
 use crate::read::{Colour, DepthStencil, Load, Pass, Session, Store, View};
 use crate::verdict::{refuse_if, Check, Refusal};
 use crate::views::Seen;
@@ -24,7 +24,12 @@ struct Checked {
 }
 
 /// Judges a pass on the lists as found.
-pub fn judge(session: &Session, pass: &Pass, found: &Lists) -> Result<Accepted, Refusal> {
+pub fn judge(
+    session: &Session,
+    pass: &Pass,
+    found: &Lists,
+    listed: Listed,
+) -> Result<Accepted, Refusal> {
     check_colours(session, pass)?;
     let depth_stencil = match &pass.depth_stencil {
         Some(at) => Some(check_depth_stencil(session, at)?),
@@ -41,7 +46,8 @@ pub fn judge(session: &Session, pass: &Pass, found: &Lists) -> Result<Accepted, 
         return Err(whole_pass(46));
     };
     check_mask(session, pass.mask, seen.layers.unwrap_or(1))?;
-    let recording = record(pass, depth_stencil.as_ref(), found);
+    let recording = Recording::new(found, listed);
+    let recording = record(pass, depth_stencil.as_ref(), recording);
     refuse_if(recording.most_discards > DISCARDS, 49, NO_PLACE)?;
     refuse_if(recording.lists.actions.len() > ACTIONS, 50, NO_PLACE)?;
     let reply = Reply {
@@ -149,8 +155,7 @@ fn divergent(at: &Checked) -> u32 {
 }
 
 /// Records the attachments in order: depth-stencil, then each colour and its resolve target.
-fn record(pass: &Pass, depth_stencil: Option<&Checked>, found: &Lists) -> Recording {
-    let mut recording = Recording::new(found);
+fn record(pass: &Pass, depth_stencil: Option<&Checked>, mut recording: Recording) -> Recording {
     if let Some(at) = depth_stencil {
         recording.attach(&at.view, 0, depth_stencil_plan(at));
     }

@@ -6,9 +6,9 @@ use crate::lists::covers;
 use crate::read::Session;
 
 /// Status bit: the surface is filled.
-const FILLED: u8 = 1;
+pub const FILLED: u8 = 1;
 /// Status bit: the last submission cleared the surface.
-const CLEARED: u8 = 2;
+pub const CLEARED: u8 = 2;
 
 /// Every surface by texture, mip and slice or layer: the order of the status bytes.
 pub fn surfaces(session: &Session) -> Vec<Surface> {

@@ -158,6 +158,59 @@ pub fn wide(passes: u32) -> Session {
     session
 }
 
+/// Two views of so many layers, each of a texture of its own.
+fn pair_of_layers(layers: u32) -> Session {
+    let texture = Texture {
+        depth_or_layers: layers,
+        ..PLAIN_TEXTURE
+    };
+    let view = |texture: u32| View {
+        texture,
+        dimension: D2_ARRAY,
+        layer_count: layers,
+        ..PLAIN_VIEW
+    };
+    Session {
+        flags: MULTIVIEW,
+        max_views: MAX_MULTIVIEW,
+        textures: vec![texture; 2],
+        views: vec![view(0), view(1)],
+        ..Session::new()
+    }
+}
+
+/// A pass over both views.
+fn both_views(load: u32, store: u32) -> Pass {
+    pass_of(&[0, 1].map(|view| Slot {
+        load,
+        store,
+        ..clearing(view)
+    }))
+}
+
+/// Two views of so many layers: a pass that discards both, one that loads and one that stores them.
+pub fn layers_lost(layers: u32) -> Session {
+    Session {
+        passes: vec![
+            both_views(CLEAR, DISCARD),
+            both_views(LOAD, STORE),
+            both_views(CLEAR, STORE),
+        ],
+        ..pair_of_layers(layers)
+    }
+}
+
+/// Twelve buffers of eight passes that load and discard two views of so many layers: in each but a buffer's first, all that
+/// the pass before has listed is cleared and listed again. With 32 layers a buffer has 64 discards and 464 actions.
+pub fn by_layers(layers: u32) -> Session {
+    let mut buffer = vec![both_views(LOAD, DISCARD); 8];
+    buffer[7].ends = 1;
+    Session {
+        passes: (0..12).flat_map(|_| buffer.clone()).collect(),
+        ..pair_of_layers(layers)
+    }
+}
+
 /// As many rows as a session can have.
 pub fn longest() -> Session {
     Session {

@@ -88,6 +88,26 @@ fn a_3d_texture_has_a_status_byte_a_slice() {
 }
 
 #[test]
+fn a_discarded_pair_has_an_entry_and_an_empty_status_byte_for_each_layer() {
+    let text = "session flags=multiview max-views=2\ntexture layers=3\nview dimension=D2Array layer=1 layers=2\n\
+                pass\n  colour view=0 load=clear\npass\n  colour view=0 load=clear store=discard\n\
+                pass\n  colour view=0 load=load";
+    let bytes = text::to_bytes(text).unwrap();
+    let mut lists = Lists::fresh();
+    for (pass, listed, status) in [
+        (0, vec![], [0, 1, 1]),
+        (1, vec![1, 2], [0; 3]),
+        (2, vec![], [0, 3, 3]),
+    ] {
+        assert_eq!(check_pass(&bytes, pass, &mut lists).number, 0);
+        let layers: Vec<u32> = lists.discards().iter().map(|s| s.layer).collect();
+        assert_eq!(layers, listed);
+        assert_eq!(submit_buffer(&bytes, &mut lists), 0);
+        assert_eq!(lists.status[..3], status);
+    }
+}
+
+#[test]
 fn the_index_of_a_surface() {
     let bytes =
         text::to_bytes("texture layers=2 mips=2\ntexture dimension=3 layers=5 mips=3").unwrap();

@@ -59,6 +59,11 @@ pub fn is_volume(t: &Texture) -> bool {
     t.dimension == 3
 }
 
+/// Whether a view has several layers.
+pub fn is_layered(v: &View) -> bool {
+    v.layer_count > 1
+}
+
 /// Layers of a texture: a 3D texture has one.
 pub fn layers(t: &Texture) -> u32 {
     if is_volume(t) {

@@ -1,7 +1,6 @@
 -- There are runs: document 01's example with the strict flag, pass 0, pass 1 and a submission, with the bytes that each call leaves,
 -- whatever stands in the buffers behind what is fresh.
-use Prim.Native.Nat.{ℕ, zero, suc, _<_}
-use native.Mathlib.Omega.{arith}
+use Prim.Native.Nat.{ℕ}
 use mathlib.Core.Path.{_≡_, refl, sym, ap, _∙_}
 use mathlib.Core.Bool.{true, false}
 use mathlib.Core.List.{List, [], _∷_, _++_}
@@ -21,7 +20,7 @@ use Rattle.desk.specs.Entry.{numberIn, Opened}
 use Rattle.desk.specs.Reply.{answered}
 use Rattle.desk.specs.Promise.{LengthsStay, PassPromise, SubmitPromise}
 use Rattle.desk.specs.EntryPoints.Run.{FreshBuffers, ofPass, ofSubmit, Turn, Run}
-use Rattle.desk.specs.EntryPoints.Theorem.{HiddenIn}
+use Rattle.desk.specs.EntryPoints.Theorem.{MaskedIn, HiddenIn}
 use Rattle.desk.proofs.Calls.{entry-called}
 use Rattle.desk.proofs.EntryPoints.Theorem.{demand-three-of-calls}
 
@@ -127,14 +126,15 @@ module _ (x y z w : List ℕ) where
     unfolding computing surfaceOf actionOfBytes recordAt records
     told = refl
 
+    -- Its view has one layer, so that no mask is asked for.
+    masked : MaskedIn example turns
+    unfolding computing surfaceOf actionOfBytes recordAt records
+    masked = refl
+
     -- So the theorem speaks of it.
     pub hidden : (Val : Type 0) (D : Drawing Val) (c c′ : Contents Val) → HiddenIn D c c′ example first turns
     unfolding computing
-    hidden = demand-three-of-calls example refl refl single first fresh turns run
-      where
-        single : (k : ℕ) → k < session example .viewCount → session example .view k .layers ≡ 1
-        single zero h = refl
-        single (suc k) h = absurd (omega arith)
+    hidden = demand-three-of-calls example refl refl first fresh turns run masked
 
 -- With as many nines behind each as make it longer than it must be: a run, and nothing is left open.
 abbrev spare : List ℕ

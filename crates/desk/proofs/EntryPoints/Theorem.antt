@@ -31,7 +31,7 @@ use Rattle.desk.specs.Promise.{LengthsStay}
 use Rattle.desk.proofs.Calls.{entry-call, entry-called}
 use Rattle.desk.proofs.Attached.{attachments-most}
 use Rattle.noninterference.specs.Memory.{events, byteOf, loaded, cells}
-use Rattle.noninterference.specs.Claim.{Fresh, submittedFrom, lastUse, kept, Agree, Hidden}
+use Rattle.noninterference.specs.Claim.{Fresh, allMasked, submittedFrom, lastUse, kept, Agree, Hidden}
 use Rattle.noninterference.proofs.Theorem.{demand-three, first-answers, never-six}
 use Rattle.desk.specs.EntryPoints.Run.{FreshBuffers, Told, ofPass, ofSubmit, callOf, Promised, Turn, Run, callsOf, buffersAfter, readIn, answersIn}
 use Rattle.desk.specs.EntryPoints.Theorem.{DemandThreeOfCalls, NeverSixOfCalls}
@@ -214,12 +214,12 @@ never-six-of-calls s ok b h ts r n k =
     (ap (lentValid (session s)) (run .states n) ∙ never-six s ok (heldIn b) (fresh-held s b h) (take n (callsOf ts)))
 
 pub demand-three-of-calls : DemandThreeOfCalls
-demand-three-of-calls s ok st single b h ts r Val D c c′ =
+demand-three-of-calls s ok st b h ts r masked Val D c c′ =
     let run = from-fresh s ok b h ts r in
     let S : Session = session s in
     let σ : State = heldIn b in
     let calls : List Call = callsOf ts in
-    let claim : Hidden D c c′ S σ calls = demand-three s ok st single Val D c c′ σ (fresh-held s b h) calls in
+    let claim : Hidden D c c′ S σ calls = demand-three s ok st Val D c c′ σ (fresh-held s b h) calls (ap (allMasked S calls) (sym (run .answered)) ∙ masked) in
     let first : (n : ℕ) → take n (answersIn ts) ≡ answers S (take n calls) σ = λ n. ap (take n) (run .answered) ∙ sym (first-answers S calls σ n) in
     let bytes : (n : ℕ) → buffersAfter b ts n .status ≡ after S (take n calls) σ .status = λ n. ap (λ (τ : State). τ .status) (run .states n) in
     record {

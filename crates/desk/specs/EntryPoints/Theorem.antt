@@ -12,11 +12,15 @@ use Rattle.definition.specs.Calls.{Call, called}
 use Rattle.definition.specs.declared.Surface.{Surface}
 use Rattle.laws.specs.Surfaces.{Inside}
 use Rattle.noninterference.specs.Memory.{Cells, Drawing, Contents, Event, events, byteOf, loaded, cells}
-use Rattle.noninterference.specs.Claim.{submittedFrom, lastUse, kept, Agree}
+use Rattle.noninterference.specs.Claim.{allMasked, submittedFrom, lastUse, kept, Agree}
 use Rattle.noninterference.specs.Theorem.{OfStrictSessions}
 use Rattle.buffer_validation.specs.Buffers.{Buffers, heldIn}
 use Rattle.desk.specs.Entry.{entry}
 use Rattle.desk.specs.EntryPoints.Run.{FreshBuffers, Turn, Run, callsOf, buffersAfter, answersIn}
+
+-- Every accepted pass of the run that uses a view of several layers has a mask that names all its layers.
+abbrev pub MaskedIn : List ℕ → List Turn → Type 0
+MaskedIn s ts = allMasked (session s) (callsOf ts) (answersIn ts) ≡ true
 
 -- A surface's status byte after the first n calls.
 abbrev pub byteAfterCalls : List ℕ → Buffers → List Turn → ℕ → Surface → ℕ
@@ -45,12 +49,12 @@ pub record HiddenIn {Val : Type 0} (D : Drawing Val) (c c′ : Contents Val) (s 
   pub equal : (n : ℕ) (x : Surface) → Inside (session s) x → filled (byteAfterCalls s b ts n x) ≡ true
       → Agree (session s) x (memoryIn D c s ts n) (memoryIn D c′ s ts n)
 
--- Of every run of a strict session from fresh buffers.
+-- Of every run of a strict session from fresh buffers whose masks name all layers.
 abbrev pub DemandThreeOfCalls : Type 1
 DemandThreeOfCalls =
     OfStrictSessions (λ s.
     (b : Buffers) → FreshBuffers s b
-    → (ts : List Turn) → Run s b ts
+    → (ts : List Turn) → Run s b ts → MaskedIn s ts
     → (Val : Type 0) (D : Drawing Val) (c c′ : Contents Val) → HiddenIn D c c′ s b ts)
 
 -- From fresh buffers number 6 never arises: after any calls, every call is the definition's, of what is lent.

@@ -5,7 +5,6 @@ use Prim.Native.Nat.{_≤_}
 use native.Mathlib.Omega.{arith}
 use borrow.Author.Needs.{needs}
 use Rattle.definition.specs.Sizes.{maxPasses}
-use Rattle.laws.proofs.Readable.{tested}
 use Rattle.report.proofs.Put.{put-as, printed}
 use Rattle.whole_session.proofs.Rows.{reached-fresh}
 use Rattle.report.proofs.Printed.{printed-rows, printed-refusal, rows-few}
@@ -29,7 +28,7 @@ put-lines-requires c κs =
     let none : called .result ≡ 0 = omega arith in
     let accepted = sym (called .ensures) ∙ none in
     let few : counted .pass-count .result ≤ maxPasses = rows-few _ _ accepted (counted .pass-count .ensures) in
-    (tested _ accepted .views, (reached-fresh _ _, omega (arith, few)))
+    (accepted, (reached-fresh _ _, omega (arith, few)))
 
 returns-2 : tie.Need-returns-2
 returns-2 c =

@@ -2,6 +2,7 @@
 use mathlib.Core.Path.{sym, _∙_}
 use borrow.Author.Needs.{needs}
 use borrow.Author.Tests.{not-true, not-false}
+use Rattle.laws.proofs.Readable.{tested}
 use Rattle.whole_session.proofs.Rows.{row-told, next-on, next-ended}
 use Rattle.whole_session.proofs.next_row.Statement.{statement}
 use Rattle.whole_session.proofs.next_row.Tie as tie
@@ -9,7 +10,8 @@ use Rattle.whole_session.proofs.next_row.Tie as tie
 summarize-requires : tie.Need-summarize-requires
 summarize-requires c κs =
     let at = c .before .before .before .before in
-    record { views = at .pre .0 .0; held = at .pre .1 .held; actions = at .pre .1 .few }
+    let read = tested _ (at .pre .0 .0) in
+    record { textures = read .textures; views = read .views; held = at .pre .1 .held; actions = at .pre .1 .few }
 
 returns : tie.Need-returns
 returns c =

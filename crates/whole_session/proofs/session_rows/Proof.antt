@@ -1,4 +1,4 @@
--- A readable session has no more passes than there may be, so that the rows fit; its views can be read, and an array of zeros has no discards.
+-- A readable session has no more passes than there may be, so that the rows fit; an array of zeros has no discards.
 use mathlib.Core.Path.{_≡_, subst}
 use native.Mathlib.Omega.{arith}
 use Prim.Native.Nat.{ℕ, _*_}
@@ -6,7 +6,6 @@ use borrow.Author.Needs.{needs}
 use lib.ListN.{drop}
 use Rattle.definition.specs.Sizes.{rowBytes}
 use Rattle.definition.specs.Session.{session}
-use Rattle.laws.proofs.Readable.{tested}
 use Rattle.session_validation.proofs.Valid.{valid-of}
 use Rattle.whole_session.specs.Rows.{rowsIn, firstRows}
 use Rattle.whole_session.proofs.Rows.{reached-fresh}
@@ -17,7 +16,7 @@ put-rows-requires : tie.Need-put-rows-requires
 put-rows-requires c κs =
     let at = c .before .before .before .before .before in
     let passes = c .before .before .pass-count .ensures in
-    (tested _ (at .pre .0) .views, (reached-fresh _ _, omega (arith, at .pre .1, passes, valid-of _ (at .pre .0) .passes)))
+    (at .pre .0, (reached-fresh _ _, omega (arith, at .pre .1, passes, valid-of _ (at .pre .0) .passes)))
 
 returns : tie.Need-returns
 returns c =

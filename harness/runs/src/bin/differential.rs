@@ -12,7 +12,7 @@ use desk::Library;
 use runs::{arguments, end};
 
 /// Passes of all systematic sets together, for the progress.
-const ENUMERATED: u64 = 91_781;
+const ENUMERATED: u64 = 107_888;
 
 /// Prints what a run has seen.
 fn print(what: &str, tally: &Tally) {

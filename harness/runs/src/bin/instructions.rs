@@ -5,6 +5,7 @@ use std::hint::black_box;
 use std::process::ExitCode;
 
 use desk::{Lists, ROWS_LEN};
+use interface::put_records;
 use runs::timed::*;
 use runs::{arguments, end};
 use sessions::layout::*;
@@ -23,6 +24,16 @@ fn pass(session: &Session, actions: u32) {
     let file = session.to_bytes();
     let mut lists = with_actions(actions);
     assert_eq!(desk::check_pass(black_box(&file), 0, &mut lists).number, 0);
+}
+
+/// A pass over two views of the most layers, with all their layers discarded.
+fn loaded_layers() {
+    let file = layers_lost(MAX_LAYERS).to_bytes();
+    let mut lists = Lists::fresh();
+    let layers = |texture: u32| (0..MAX_LAYERS).map(move |layer| [texture, 0, layer, 0]);
+    put_records(&mut lists.discards, (0..2).flat_map(layers));
+    let reply = desk::check_pass(black_box(&file), 1, &mut lists);
+    assert_eq!((reply.number, reply.clears), (0, DISCARDS as u32));
 }
 
 /// The whole session.
@@ -55,7 +66,7 @@ fn with_actions(count: u32) -> Lists {
 }
 
 /// Every call that is counted.
-const CALLS: [Call; 12] = [
+const CALLS: [Call; 15] = [
     Call {
         function: "deskcheck_pass",
         name: "one-slot",
@@ -82,6 +93,16 @@ const CALLS: [Call; 12] = [
         make: || pass(&by_passes(1), 490),
     },
     Call {
+        function: "deskcheck_pass",
+        name: "discards-two-of-32-layers",
+        make: || pass(&layers_lost(MAX_LAYERS), 0),
+    },
+    Call {
+        function: "deskcheck_pass",
+        name: "loads-two-of-32-layers",
+        make: loaded_layers,
+    },
+    Call {
         function: "deskcheck_session",
         name: "100-of-one-slot",
         make: || whole(&by_passes(MAX_PASSES)),
@@ -100,6 +121,11 @@ const CALLS: [Call; 12] = [
         function: "deskcheck_session",
         name: "loads-among-64-discards",
         make: || whole(&loads_among_discards()),
+    },
+    Call {
+        function: "deskcheck_session",
+        name: "96-of-two-of-32-layers",
+        make: || whole(&by_layers(MAX_LAYERS)),
     },
     Call {
         function: "deskcheck_session_refusal",

@@ -1,13 +1,15 @@
 -- The invariant: what the plans that are left list, behind what stands there so far, is what all list behind the first n.
 use native.Mathlib.Omega.{arith}
-use mathlib.Core.Path.{_≡_, refl, _∙_}
+use mathlib.Core.Path.{_≡_, refl, subst, _∙_}
 use mathlib.Core.List.{map}
 use Prim.Native.Nat.{_-_, _≤_}
 use lib.ListN.{length, take, drop}
 use Rattle.definition.specs.Sizes.{surfaceBytes, countBytes}
-use Rattle.laws.specs.Plans.{listedAll}
+use Rattle.laws.specs.Plans.{listedAll, Layered}
+use Rattle.laws.proofs.Plans.{layered-drop}
 use Rattle.lists.specs.Lists.{surfaceOf}
-use Rattle.memory_init.specs.Plans.{planIn}
+use Rattle.memory_init.specs.Plans.{planIn, plansIn}
+use Rattle.memory_init.proofs.Turns.{plans-turn}
 use Rattle.memory_init.proofs.Entries.{Appending, appending-start, plan-room, plan-turn, plan-done}
 use Rattle.memory_init.proofs.Discards.{listed}
 use Rattle.memory_init.proofs.recording.list_all.Statement.{statement}
@@ -29,7 +31,10 @@ list-by-requires c κs =
     let turn = c .before .before in
     let at = turn .before in
     let start = at .before .before .before in
-    plan-room listed (start .args .plans) (start .pre .0) (at .loop .i) (at .loop .inv .0) _ _ (turn .loop-test .taken) (omega (arith, at .loop .inv .1, start .pre .1))
+    let more = turn .loop-test .taken in (
+      subst Layered (plans-turn (start .args .plans) (start .pre .0) _ _ (at .loop .i) more refl) (layered-drop (plansIn (start .args .plans)) (start .pre .1 .1) (at .loop .i)) .0,
+      plan-room listed (start .args .plans) (start .pre .0) (at .loop .i) (at .loop .inv .0) _ _ more (omega (arith, at .loop .inv .1, start .pre .1 .0)),
+    )
 
 loop-again : tie.Need-loop-again Inv-loop μ-loop
 loop-again c =

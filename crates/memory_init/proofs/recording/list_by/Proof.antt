@@ -1,12 +1,12 @@
--- A record written right after the first n is appended to them.
+-- A plan that discards lists the layers of its range; another lists none.
 use borrow.Author.Needs.{needs}
 use borrow.Author.Tests.{not-true, not-false}
-use mathlib.Core.Path.{sym, ap, _∙_}
 use native.Mathlib.Omega.{arith}
-use mathlib.Core.List.{[], _∷_}
+use mathlib.Core.Path.{ap}
 use lib.ListN.{length}
+use Rattle.definition.specs.declared.Range.{Range}
+use Rattle.laws.proofs.Surfaces.{layers-count}
 use Rattle.lists.proofs.Lists.{appended-none}
-use Rattle.laws.proofs.Records.{write-append}
 use Rattle.memory_init.specs.Plans.{planIn}
 use Rattle.memory_init.proofs.Entries.{appended-as}
 use Rattle.memory_init.proofs.Discards.{listed-on, listed-off}
@@ -18,27 +18,27 @@ returns c =
     let start = c .before .before .before in
     appended-as (listed-off (planIn (start .args .p)) (not-true _ (c .if1 .taken))) (appended-none _ _ _ _)
 
-put-surface-requires : tie.Need-put-surface-requires
-put-surface-requires c κs =
-    let test = c .before .before .before in
+list-layers-requires : tie.Need-list-layers-requires
+list-layers-requires c κs =
+    let test = c .before .before in
     let start = test .before .before .before in
-    omega (arith, start .pre, ap length (listed-on (planIn (start .args .p)) (not-false _ (test .if1 .left))))
+    let r : Range = start .args .p .range in (
+      start .pre .0,
+      omega (arith, start .pre .1, ap length (listed-on (planIn (start .args .p)) (not-false _ (test .if1 .left))), layers-count (r .texture) (r .mip) (r .slice) (r .layer) (r .layers)),
+    )
 
 returns-2 : tie.Need-returns-2
 returns-2 c =
     let call = c .before .before in
-    let first = call .before in
-    let test = first .before .before .before in
+    let test = call .before .before .before in
     let start = test .before .before .before in
-    appended-as (listed-on (planIn (start .args .p)) (not-false _ (test .if1 .left)) ∙ ap (λ s. s ∷ []) (sym (first .first-of .ensures))) (write-append _ _ _ _ _ _ (call .put-surface .ensures))
+    appended-as (listed-on (planIn (start .args .p)) (not-false _ (test .if1 .left))) (call .list-layers .ensures)
 
 pub list-by-spec : {M : Type 1} → statement M
 list-by-spec =
     tie.close
     (tie.spec
     returns
-    (λ c κs. search needs)
-    put-surface-requires
-    (λ c. search needs)
+    list-layers-requires
     (λ c. search needs)
     returns-2)

@@ -35,7 +35,7 @@ list-all-requires : tie.Need-list-all-requires
 list-all-requires c κs =
     let start = c .before .before .before .before .before in
     let b = start .args .discards .now in
-    (start .pre .0, omega (arith, start .pre .1 .room .bytes, keeps-count b (met (c .before)) (listedAll (plansIn (start .args .plans))), met-long (c .before)))
+    (start .pre .0, (omega (arith, start .pre .1 .room .bytes, keeps-count b (met (c .before)) (listedAll (plansIn (start .args .plans))), met-long (c .before)), start .pre .1 .layers))
 
 set-count-requires : tie.Need-set-count-requires
 set-count-requires c κs =

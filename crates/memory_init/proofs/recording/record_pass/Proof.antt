@@ -1,7 +1,7 @@
 -- Each list has the room that its part asks for, and what the parts leave is what the plans leave together.
 use borrow.Author.Needs.{needs}
 use Rattle.lists.specs.Lent.{ListBytes, bytes}
-use Rattle.memory_init.proofs.Discards.{looked-inside, actions-room, clears-room, pass-leaves}
+use Rattle.memory_init.proofs.Discards.{looked-inside, actions-room, clears-room, discards-lent, pass-leaves}
 use Rattle.memory_init.proofs.recording.record_pass.Statement.{statement}
 use Rattle.memory_init.proofs.recording.record_pass.Tie as tie
 
@@ -18,6 +18,13 @@ return-clears-requires c κs =
     let start = look .before .before .before .before .before in
     let b : ListBytes = bytes (start .args .discards .now) (start .args .actions .now) (start .args .clears .now) in
     (start .pre .whole, (looked-inside (start .args .plans) (start .args .t) b (start .pre) _ (look .looked-at .ensures), clears-room (start .args .plans) (start .args .t) b (start .pre) _ (look .looked-at .ensures)))
+
+record-discards-requires : tie.Need-record-discards-requires
+record-discards-requires c κs =
+    let look = c .before .before .before .before .before .before .before .before .before .before .before in
+    let start = look .before .before .before .before .before in
+    let b : ListBytes = bytes (start .args .discards .now) (start .args .actions .now) (start .args .clears .now) in
+    (start .pre .whole, discards-lent (start .args .plans) (start .args .t) b (start .pre) _ (look .looked-at .ensures))
 
 returns : tie.Need-returns
 returns c =
@@ -36,7 +43,7 @@ record-pass-spec =
     (λ c κs. search needs)
     record-actions-requires
     return-clears-requires
-    (λ c κs. search needs)
+    record-discards-requires
     (λ c. search needs)
     (λ c. search needs)
     (λ c. search needs)

@@ -34,7 +34,7 @@ loop-again c =
     let at = turn .before in
     let start = at .before .before .before .before in (
       tally-turn (at .loop .inv .0) _ (plans-turn (start .args .plans) (start .pre .1) _ _ (at .loop .i) (omega arith) refl) (found .found-by .result) (found .found-by .ensures) _
-          (ap₂ _+_ (left .left-of .ensures .0) (one .one-if .ensures .0)) (omega (arith, left .left-of .ensures .1, one .one-if .ensures .1)),
+          (ap₂ _+_ (left .left-of .ensures .0) (one .listed-by .ensures)) (omega (arith, left .left-of .ensures .1)),
       omega arith,
     )
 
@@ -57,6 +57,7 @@ tally-pass-spec =
     (λ c κs. search needs)
     (λ c κs. search needs)
     (λ c κs. search needs)
+    (λ c. omega arith)
     (λ c. omega arith)
     (λ c. omega arith)
     (λ c. omega arith)

@@ -23,7 +23,7 @@ pub struct Growth {
 }
 
 /// Every growth that is plotted.
-pub fn growths() -> [Growth; 5] {
+pub fn growths() -> [Growth; 7] {
     [
         Growth {
             name: "sessions-by-passes",
@@ -44,10 +44,22 @@ pub fn growths() -> [Growth; 5] {
             points: || grow(&[1, 64, 512, 1024, 2048, 3072, MAX_SURFACES], by_surfaces),
         },
         Growth {
+            name: "sessions-by-layers",
+            title: "Whole sessions of 96 passes over the layers of their views",
+            unit: "layers",
+            points: || grow(&LAYERS, by_layers),
+        },
+        Growth {
             name: "passes-by-discards",
             title: "Single passes over discards held",
             unit: "discards held",
             points: by_discards,
+        },
+        Growth {
+            name: "passes-by-layers",
+            title: "Single passes of two views, discarded and stored, over their layers",
+            unit: "layers",
+            points: || LAYERS.map(|n| (n, lost_and_stored(n))).to_vec(),
         },
         Growth {
             name: "passes-by-views",
@@ -60,6 +72,9 @@ pub fn growths() -> [Growth; 5] {
         },
     ]
 }
+
+/// Layers of views.
+const LAYERS: [u32; 6] = [1, 2, 4, 8, 16, MAX_LAYERS];
 
 /// The cost of whole sessions of each size.
 fn grow(sizes: &[u32], session: fn(u32) -> Session) -> Vec<(u32, Pair)> {
@@ -111,7 +126,7 @@ fn comparable(seed: u64, count: usize) -> Vec<Vec<u8>> {
         .collect()
 }
 
-/// Whole sessions: document 01's example, random ones, of a hundred passes, and with all discards held.
+/// Whole sessions: document 01's example, random ones, of a hundred passes, with all discards held, and of the most layers.
 pub fn whole_sessions() -> impl Iterator<Item = (String, Pair)> {
     let sets = [
         ("document 01's example, 2 passes", vec![text::document_01()]),
@@ -131,6 +146,10 @@ pub fn whole_sessions() -> impl Iterator<Item = (String, Pair)> {
         (
             "3 buffers: 64 discards, 25 passes of 17 loads",
             vec![loads_among_discards().to_bytes()],
+        ),
+        (
+            "12 buffers of 8 passes: 64 layers cleared, lost",
+            vec![by_layers(MAX_LAYERS).to_bytes()],
         ),
     ];
     sets.into_iter()
@@ -259,32 +278,40 @@ const PAIRS: usize = 200;
 /// Clear with Discard and then Clear with Store of one surface, while others are held.
 fn by_discards() -> Vec<(u32, Pair)> {
     let session = many_discards();
-    let file = session.to_bytes();
-    let held = |count: u32| {
-        let mut lists = Lists::fresh();
-        let mut run = Run::new(&session);
-        for pass in 0..count {
-            desk::check_pass(&file, pass, &mut lists);
-            let _ = run.judge_only(&session.passes[pass as usize]);
-        }
-        assert_eq!(lists.discards().len(), count as usize);
-        let kept = run.kept();
-        let two = [DISCARDS as u32 - 1, DISCARDS as u32];
-        let ours = || {
-            lists.actions[..COUNT_LEN].fill(0);
-            for pass in (0..PAIRS).flat_map(|_| two) {
-                black_box(&desk::check_pass(black_box(&file), pass, &mut lists));
-            }
-        };
-        let rust = || {
-            run.put_back(&kept);
-            for pass in (0..PAIRS).flat_map(|_| two) {
-                let _ = black_box(&run.judge_only(&session.passes[pass as usize]));
-            }
-        };
-        (count, pair(2 * PAIRS, ours, rust))
-    };
+    let two = [DISCARDS as u32 - 1, DISCARDS as u32];
+    let held = |count: u32| (count, repeated(&session, count, two));
     [0, 1, 8, 16, 32, 48, DISCARDS as u32 - 1]
         .map(held)
         .to_vec()
+}
+
+/// Clear with Discard and then Clear with Store of two views of so many layers.
+fn lost_and_stored(layers: u32) -> Pair {
+    repeated(&layers_lost(layers), 0, [0, 2])
+}
+
+/// Two passes by turns, while the discards of the session's first passes are held.
+fn repeated(session: &Session, held: u32, two: [u32; 2]) -> Pair {
+    let file = session.to_bytes();
+    let mut lists = Lists::fresh();
+    let mut run = Run::new(session);
+    for pass in 0..held {
+        desk::check_pass(&file, pass, &mut lists);
+        let _ = run.judge_only(&session.passes[pass as usize]);
+    }
+    assert_eq!(lists.discards().len(), held as usize);
+    let kept = run.kept();
+    let ours = || {
+        lists.actions[..COUNT_LEN].fill(0);
+        for pass in (0..PAIRS).flat_map(|_| two) {
+            black_box(&desk::check_pass(black_box(&file), pass, &mut lists));
+        }
+    };
+    let rust = || {
+        run.put_back(&kept);
+        for pass in (0..PAIRS).flat_map(|_| two) {
+            let _ = black_box(&run.judge_only(&session.passes[pass as usize]));
+        }
+    };
+    pair(2 * PAIRS, ours, rust)
 }

@@ -23,7 +23,7 @@ ours: the proved library's C functions. Rows and lent lists are allocated once; 
   (counts and status 0) and not fresh, except that deskcheck_session makes its own fresh ones.
 Rust: the functions of docs/src with the harness's stand-ins; it reads the same bytes with the reader
   of harness/sessions, allocates its resources and lists, and records what its encoder is told. It
-  does no test of ours: 5, 49 and 50.
+  does no test of ours: 5, 49 and 50. Of a discarded view it lists the first layer alone.
 ratio: the Rust's time by ours; over 1 means that ours is faster.
 ";
 
