@@ -1,10 +1,5 @@
-// The checks of an attachment: numbers 30 to 48 and 51, the views of a pass in order, depth-stencil first; here colour slots and resolve
-// targets, in `views` what is asked of every view, in `overlap` which surfaces are taken, in `mask` the multiview mask.
-// Every public function is total, and its contract is an equation with the definition.
-pub mod mask;
-pub mod overlap;
-pub mod views;
-
+// The checks of an attachment: numbers 30 to 48 and 51, the views of a pass in order, depth-stencil first; colour slots and resolve targets.
+// What is asked of every view is `view_checks`'. Every public function is total, and its contract is an equation with the definition.
 use definition::Progress;
 use definition::Seen;
 use definition::Slot;
@@ -30,8 +25,8 @@ use definition::verdicts::is_accepted;
 use definition::verdicts::then;
 use definition::verdicts::unless;
 use definition::verdicts::unless_against;
-use overlap::check_attachment_overlap;
-use overlap::check_resolve_overlap;
+use formats::is_color;
+use formats::with_color;
 use session::PassRow;
 use session::depth_stencil;
 use session::derived::depth_of;
@@ -41,19 +36,19 @@ use session::derived::is_d2_array;
 use session::derived::is_d3;
 use session::derived::is_none;
 use session::derived::transient;
-use session::formats::is_color;
-use session::formats::with_color;
 use session::header::color_bytes;
 use session::slot_view;
 use session::slot_without_clear;
 use session::view;
 use session::view_format;
-use views::add_view;
-use views::check_multiview;
-use views::depth_stencil_view;
-use views::none_seen;
-use views::renderable;
-use views::see_view;
+use view_checks::overlap::check_attachment_overlap;
+use view_checks::overlap::check_resolve_overlap;
+use view_checks::views::add_view;
+use view_checks::views::check_multiview;
+use view_checks::views::depth_stencil_view;
+use view_checks::views::none_seen;
+use view_checks::views::renderable;
+use view_checks::views::see_view;
 ghost use mathlib.Core.Path.{_≡_};
 ghost use mathlib.Core.List.{_++_};
 ghost use lib.Dec.{leb};
@@ -63,7 +58,7 @@ ghost use Rattle.definition.specs.Session.{session};
 ghost use Rattle.definition.specs.Views as Vw;
 ghost use Rattle.definition.specs.Check as Ck;
 ghost use Rattle.session.specs.Rows.{passIn};
-ghost use Rattle.attachment_checks.specs.Taken.{takenIn};
+ghost use Rattle.view_checks.specs.Taken.{takenIn};
 
 // 39, 38 and 40: a slice is given for a D3 view, inside its mip's depth, and for no other.
 fn slice_verdict(s: &[u8], c: Slot, v: View, place: u32) -> Verdict

@@ -348,9 +348,17 @@ none-implicit (p ∷ ps) d h =
     ap₂ _++_ (none-implicit-by (p .kind) (p .range) d (none-first (leavingBy (p .kind) (p .range) d) (leavingAll ps d) h))
     (none-implicit ps d (none-second (leavingBy (p .kind) (p .range) d) (leavingAll ps d) h))
 
--- ── layers
+-- ── what is listed
 
--- Those of the plans that are left.
+-- A plan that discards lists what its range names.
+pub listed-yes : (p : Plan) → p .discards ≡ true → listedBy p ≡ named (p .range)
+listed-yes p h = ap (λ b. cond b (named (p .range)) []) h
+
+-- Another lists none.
+pub listed-no : (p : Plan) → p .discards ≡ false → listedBy p ≡ []
+listed-no p h = ap (λ b. cond b (named (p .range)) []) h
+
+-- Few layers of all plans are few of those that are left.
 pub layered-drop : (ps : List Plan) → Layered ps → (i : ℕ) → Layered (drop i ps)
 layered-drop ps h zero = h
 layered-drop [] h (suc i) = tt

@@ -1,4 +1,3 @@
 pub mod Turns
 pub mod Counting
 pub mod Entries
-pub mod Discards

@@ -1,4 +1,3 @@
 -- The root of what this crate means beyond the definition.
 pub mod Plans
 pub mod Tally
-pub mod Recording

@@ -1,7 +1,5 @@
-// The port of memory_init.rs: what the attachments of a pass do to the discards, actions and clears of a command buffer, in lists that
-// the caller lends. Every function answers as the definition does; none refuses for want of room, which the caller knows beforehand.
-// In `tally` what a pass finds in the lists, counted before anything is written; in `recording` what it then leaves in them.
-pub mod recording;
+// What the attachments of a pass do to the discards, actions and clears of a command buffer (memory_init.rs), as plans; in `tally` what a
+// pass finds in the lists that a caller lends, counted before anything is written. What it then leaves in them is `recording`'s.
 pub mod tally;
 
 use definition::MemoryInitKind;

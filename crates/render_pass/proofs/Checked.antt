@@ -23,7 +23,7 @@ use Rattle.memory_init.specs.declared.tally.Tally.{Tally}
 use Rattle.memory_init.specs.declared.Plans.{Plans}
 use Rattle.memory_init.specs.Plans.{plansIn}
 use Rattle.memory_init.specs.Tally.{DiscardsInRoom, TallyOf}
-use Rattle.memory_init.specs.Recording.{Recordable}
+use Rattle.recording.specs.Recording.{Recordable}
 use Rattle.attachments.specs.declared.DepthStencilPart.{DepthStencilPart}
 use Rattle.attachments.specs.declared.resolve.Attachments.{Attachments}
 use Rattle.attachments.specs.Attached.{PartOf}

@@ -25,7 +25,7 @@ use Rattle.lists.proofs.Lists.{list-length, becomes-count}
 use Rattle.memory_init.specs.declared.tally.Tally.{Tally}
 use Rattle.memory_init.specs.Plans.{plansIn}
 use Rattle.memory_init.specs.Tally.{TallyOf}
-use Rattle.memory_init.specs.Recording.{LentDiscards}
+use Rattle.discard_list.specs.Discards.{LentDiscards}
 use Rattle.memory_init.specs.declared.Plans.{Plans}
 use Rattle.attachments.specs.Resolved.{PlansOf}
 use Rattle.render_pass.specs.declared.summary.PassSummary.{PassSummary}

@@ -8,7 +8,7 @@ use definition::Seen;
 use definition::Verdict;
 use definition::verdicts::accepted;
 use definition::verdicts::is_accepted;
-use memory_init::recording::record_discards;
+use discard_list::record_discards;
 use memory_init::tally::tally_pass;
 use session::PassRow;
 ghost use mathlib.Core.Path.{_≡_};

@@ -1,5 +1,4 @@
 // What is derived from the header and rows of a session file. No function has a `requires`.
-use crate::formats::mip_size;
 use crate::header::flags;
 use crate::texture;
 use definition::Range;
@@ -7,6 +6,7 @@ use definition::Texture;
 use definition::View;
 use definition::sizes::NO_VIEW;
 use encoding::has_bit;
+use formats::mip_size;
 ghost use mathlib.Core.Path.{_≡_};
 ghost use Rattle.definition.specs.Session as Se;
 ghost use Rattle.definition.specs.Session.{session};

@@ -1,8 +1,7 @@
 // The header and rows of a session file, by value. Every byte string and every number has an answer, since a byte past the end reads as 0;
 // only `texture_inside`, `view_inside` and `surfaces::surface_offset` have a `requires`, which their callers know.
-// In `header` its fields, in `derived` and `surfaces` what follows from the rows, in `formats` the formats that they name.
+// In `header` its fields, in `derived` and `surfaces` what follows from the rows.
 pub mod derived;
-pub mod formats;
 pub mod header;
 pub mod surfaces;
 

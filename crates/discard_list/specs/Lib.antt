@@ -1,0 +1,2 @@
+-- The root of what this crate means beyond the definition.
+pub mod Discards
