@@ -119,6 +119,7 @@ from-fresh : {Val : Type 0} (D : Drawing Val) (c c′ : Contents Val) (S : Sessi
 from-fresh D c c′ S fit σ new calls h =
     all-calls D (c .left) (c′ .left) S fit calls 0 σ [] [] (c .first) (c′ .first) (start D (c .left) (c′ .left) S σ new (c .first) (c′ .first)) h
 
+-- The first of calls whose masks name all layers are such calls.
 first-masked : (S : Session) (n : ℕ) (calls : List Call) (σ : State) → Masked S σ calls → Masked S σ (take n calls)
 first-masked S zero calls σ h = refl
 first-masked S (suc n) [] σ h = refl
