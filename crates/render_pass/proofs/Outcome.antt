@@ -24,7 +24,7 @@ use Rattle.laws.proofs.Tests.{clash, cond-on, cond-off}
 use Rattle.laws.proofs.Verdicts.{then-left, then-right, then-stop, then-go, unless-on}
 use Rattle.laws.proofs.Plans.{attach-together, room-counted, staying-count, steps-end, returned-most}
 use Rattle.noninterference.proofs.Passes.{All}
-use Rattle.noninterference.proofs.Accepted.{Ranged, accepted-okay}
+use Rattle.noninterference.proofs.Accepted.{Ranged, pass-ranged}
 use Rattle.session_validation.proofs.Valid.{valid-pass}
 use Rattle.lists.specs.Lent.{Fits}
 use Rattle.memory_init.specs.declared.tally.Tally.{Tally}
@@ -55,7 +55,7 @@ ranged-layers S h (x ∷ xs) a = (omega (arith, a .0 .range .layers, few-layers 
 -- So that the layers of an accepted pass are few.
 pub few-layered : (S : Session) (p : Pass) → texturesValid S ≡ true → viewsValid S ≡ true → isAccepted (check S p .verdict) ≡ true
     → (ps : List Plan) → ps ≡ map planOf (attachments S p) → Layered ps
-few-layered S p textures views h ps are = subst Layered (sym are) (ranged-layers S textures (attachments S p) (accepted-okay S views p h .ranged))
+few-layered S p textures views h ps are = subst Layered (sym are) (ranged-layers S textures (attachments S p) (pass-ranged S views p h))
 
 -- ── 49 and 50
 
