@@ -1,4 +1,6 @@
 // The words of an answer: a reply to a pass, held to the next words of a list of answers. harness/README.md has the list's form.
+#![tactic(auto)]
+
 ghost use Rattle.std.specs.Prelude.{◌≡◌, ◌<◌};
 ghost use Rattle.definition.specs.Sizes.{max_passes};
 ghost use Rattle.whole_session.specs.Numbers.{numbers_at};
@@ -24,7 +26,7 @@ const MAX_LENT: u32 = MAX_CLEARS as u32;
 const SURFACE: u32 = SURFACE_NUMBERS as u32;
 
 // A place in the list, and whether every word so far is the one that was answered.
-#[derive(Drop)]
+#[derive(Clone, Copy)]
 pub struct Place {
     pub at: usize,
     pub same: bool,

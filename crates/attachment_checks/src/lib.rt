@@ -1,5 +1,7 @@
 // The checks of an attachment: numbers 30 to 48 and 51, the views of a pass in order, depth-stencil first; colour slots and resolve targets.
 // What is asked of every view is `view_checks`'. Every public function is total, and its contract is an equation with the definition.
+#![tactic(auto)]
+
 ghost use Rattle.std.specs.Prelude.{◌≡◌, ◌++◌, leb, ◌+◌, ◌<◌, ◌≤◌, min};
 ghost use Rattle.definition.specs.Sizes.{max_slots};
 ghost use Rattle.definition.specs.Session.{session};

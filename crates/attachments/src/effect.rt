@@ -39,7 +39,7 @@ const DEPTH: u32 = 1;
 const STENCIL: u32 = 2;
 
 // The effect of operations: the action that they register, whether they list a discard, and the aspect that diverges.
-#[derive(Drop)]
+#[derive(Clone, Copy)]
 pub struct Effect {
     pub kind: InitKind,
     pub discards: bool,

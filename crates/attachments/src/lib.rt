@@ -1,6 +1,8 @@
 // The attachments of a pass, each alone: what it does to the lists and what it replies (RenderPassInfo::start, finish).
 // In `effect`: the action, the discard and the divergent aspect by its operations alone; in `resolve` all attachments of a pass.
 // Every function is total, and its contract is an equation with the definition, under the translations of specs/.
+#![tactic(auto)]
+
 pub mod effect;
 pub mod resolve;
 
@@ -35,7 +37,7 @@ use session::{PassRow, depth, depth_stencil, stencil, view};
 
 // The depth-stencil attachment of a pass, if it has one: what it does to the lists, what it replies, which channels it
 // only reads, and the aspect that is cleared after the pass.
-#[derive(Drop)]
+#[derive(Clone, Copy)]
 pub struct DepthStencilPart {
     pub present: bool,
     pub planned: Planned,

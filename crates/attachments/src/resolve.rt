@@ -22,7 +22,7 @@ use session::{PassRow, slot, slot_without_clear};
 
 // The attachments of a reply: the first `count` records.
 #[repr(C)]
-#[derive(Drop)]
+#[derive(Clone, Copy)]
 pub struct Attachments {
     pub records: [Attachment; MAX_ATTACHMENTS],
     pub count: u32,

@@ -2,6 +2,7 @@
 // Each test is the definition's, of what the lent bytes hold, and reads a record where it stands in them; a list is left at its first record
 // out of range. Texture rows lie inside a session that is not refused, so that those that the records name are read untested, and their number
 // is read once.
+#![tactic(auto)]
 
 ghost use Rattle.std.specs.Prelude.{◌≡◌, true, false, ◌&&◌, ◌-◌, ◌≤◌, length};
 ghost use Rattle.definition.specs.Sizes.{max_surfaces, surface_bytes, action_bytes, list_bytes};

@@ -11,7 +11,7 @@ use crate::{LoadKind, Operations, StoreOp, load_kind, store_op};
 use definition::{Color, Slot, black};
 
 // LoadOp<Color>.
-#[derive(Drop)]
+#[derive(Clone, Copy)]
 pub enum ColorLoadOp {
     Load,
     Clear(Color),
@@ -19,7 +19,7 @@ pub enum ColorLoadOp {
 }
 
 // Operations<Color>.
-#[derive(Drop)]
+#[derive(Clone, Copy)]
 pub struct ColorOps {
     pub load: ColorLoadOp,
     pub store: StoreOp,

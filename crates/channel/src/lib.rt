@@ -1,6 +1,8 @@
 // What the channels of a pass share: load and store operations without the value of a Clear, the operations of a colour
 // attachment, and in `pass` a channel as a pass gives it. In specs/ and proofs/: a channel of any value.
 // Every function is total; its contract is an equation with the definition, at the type of one value where there is none.
+#![tactic(auto)]
+
 pub mod color;
 pub mod pass;
 
@@ -13,14 +15,14 @@ ghost use Rattle.channel.specs.Kind.{kind_in, kind_field_in, operations_in};
 // ── stores
 
 // W3C GPUStoreOp.
-#[derive(Drop)]
+#[derive(Clone, Copy)]
 pub enum StoreOp {
     Store,
     Discard,
 }
 
 // The Rust's Option<StoreOp>.
-#[derive(Drop)]
+#[derive(Clone, Copy)]
 pub enum StoreField {
     Absent,
     Is(StoreOp),
@@ -71,7 +73,7 @@ fn store_hal_ops(store: StoreOp) -> u32
 // ── loads
 
 // The Rust's LoadOp<V> without its value.
-#[derive(Drop)]
+#[derive(Clone, Copy)]
 pub enum LoadKind {
     Load,
     Clear,
@@ -79,7 +81,7 @@ pub enum LoadKind {
 }
 
 // One that may be absent.
-#[derive(Drop)]
+#[derive(Clone, Copy)]
 pub enum LoadField {
     Absent,
     Is(LoadKind),
@@ -153,7 +155,7 @@ pub fn check_transient_attachment_ops(load: LoadKind, store: StoreOp) -> bool
 // ── both
 
 // Operations<V> without the value.
-#[derive(Drop)]
+#[derive(Clone, Copy)]
 pub struct Operations {
     pub load: LoadKind,
     pub store: StoreOp,

@@ -14,7 +14,7 @@ use definition::refusals::{
 use definition::verdicts::{AT_DEPTH_STENCIL, unless};
 
 // PassChannel<V>.
-#[derive(Drop)]
+#[derive(Clone, Copy)]
 pub struct PassChannel {
     pub load: LoadField,
     pub store: StoreField,
@@ -22,14 +22,14 @@ pub struct PassChannel {
 }
 
 // What is made of a clear value: a value, or the number that refuses it.
-#[derive(Drop)]
+#[derive(Clone, Copy)]
 pub enum Handled {
     Value,
     Refusal(u32),
 }
 
 // A resolved channel, or the number that refuses it.
-#[derive(Drop)]
+#[derive(Clone, Copy)]
 pub enum Answer {
     Refused(u32),
     ReadOnly,

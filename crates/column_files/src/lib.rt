@@ -1,5 +1,7 @@
 // Session files whose pass part is stored by columns, and back: what the programs `to_columns` and `to_rows` write for a file.
 // A refused session gets the line that `deskcheck` prints.
+#![tactic(auto)]
+
 ghost use Rattle.std.specs.Prelude.{◌≡◌, List, ℕ, ◌≤◌, length, take};
 ghost use Rattle.definition.specs.Sizes.{longest_session};
 ghost use Rattle.definition.specs.Readable.{session_refusal};

@@ -1,5 +1,7 @@
 // Pass rows stored by columns, for a file server that wants like bytes side by side: the pass part of a session rearranged, the
 // way back, and the caller's own part that holds one column. No public function has a `requires`.
+#![tactic(auto)]
+
 ghost use Rattle.std.specs.Prelude.{◌≡◌, ◌++◌, ◌+◌, ◌*◌, ◌≤◌, length, get_or, take, drop};
 ghost use Rattle.definition.specs.Sizes.{pass_bytes};
 ghost use Rattle.columns.specs.Columns as C;
@@ -10,7 +12,7 @@ use definition::refusals::{INVALID_HEADER, INVALID_LENT};
 use definition::sizes::{MAX_PASSES, PASS_BYTES};
 
 // What the pass part is rearranged to.
-#[derive(Drop)]
+#[derive(Clone, Copy)]
 pub enum Way {
     Columns,
     Rows,
@@ -18,7 +20,7 @@ pub enum Way {
 
 // Where a column stands in the caller's columns, and how many bytes it has. `number` is 0, or 2; then there are none.
 #[repr(C)]
-#[derive(Drop)]
+#[derive(Clone, Copy)]
 pub struct ColumnPlace {
     pub number: u32,
     pub first: usize,

@@ -1,6 +1,8 @@
 // What the desk check answers, as definitions. Everything is in specs/; here are the records that the
 // definitions and the code share, so that a contract needs no translation. Numbers are document 01's.
 // The one code here is `black` and what is in `verdicts`, and is proved as all code is.
+#![tactic(auto)]
+
 pub mod refusals;
 pub mod sizes;
 pub mod verdicts;
@@ -9,7 +11,7 @@ ghost use Rattle.std.specs.Prelude.{◌≡◌};
 ghost use Rattle.definition.specs.Pass as Ps;
 
 // A texture row. `depth` is the depth of a 3D texture, else the number of layers.
-#[derive(Drop)]
+#[derive(Clone, Copy)]
 pub struct Texture {
     pub format: u32,
     pub dimension: u32,
@@ -22,14 +24,14 @@ pub struct Texture {
 }
 
 // Whether a format has a depth and a stencil aspect.
-#[derive(Drop)]
+#[derive(Clone, Copy)]
 pub struct Aspects {
     pub depth: bool,
     pub stencil: bool,
 }
 
 // What a colour of a format adds to a sample: bytes, and what the sum is rounded up to before.
-#[derive(Drop)]
+#[derive(Clone, Copy)]
 pub struct TargetCost {
     pub cost: u32,
     pub alignment: u32,
@@ -37,7 +39,7 @@ pub struct TargetCost {
 
 // A view row: `mips` mips from `mip` on, `layers` layers from `layer` on, shown in `format`.
 // Dimension: 1 D1, 2 D2, 3 D2Array, 4 Cube, 5 CubeArray, 6 D3.
-#[derive(Drop)]
+#[derive(Clone, Copy)]
 pub struct View {
     pub texture: u32,
     pub dimension: u32,
@@ -52,7 +54,7 @@ pub struct View {
 
 // The depth or the stencil part of a pass row. Load: 0 Load, 1 Clear, 2 DontCare, 3 absent.
 // Store: 0 Store, 1 Discard, 2 absent. `given` is 1 where the clear value is given.
-#[derive(Drop)]
+#[derive(Clone, Copy)]
 pub struct Channel {
     pub load: u32,
     pub store: u32,
@@ -63,7 +65,7 @@ pub struct Channel {
 
 // A colour clear value (the Rust's r, g, b, a).
 #[repr(C)]
-#[derive(Drop)]
+#[derive(Clone, Copy)]
 pub struct Color {
     pub red: f64,
     pub green: f64,
@@ -84,7 +86,7 @@ pub fn black() -> Color
 }
 
 // A colour slot of a pass row. `sliced` is 1 where the slice is given.
-#[derive(Drop)]
+#[derive(Clone, Copy)]
 pub struct Slot {
     pub view: u32,
     pub sliced: u32,
@@ -98,7 +100,7 @@ pub struct Slot {
 // What a check answers: a number (0 accepted), its place, and the place of the view it was compared with.
 // Places: 0 to 7 a colour slot, 8 to 15 its resolve target, 16 depth-stencil, 17 none.
 #[repr(C)]
-#[derive(Drop)]
+#[derive(Clone, Copy)]
 pub struct Verdict {
     pub number: u32,
     pub place: u32,
@@ -107,7 +109,7 @@ pub struct Verdict {
 
 // What the views accepted so far have fixed. `layers` is 0 before the first; `last` is the place of the
 // depth-stencil or colour view accepted last.
-#[derive(Drop)]
+#[derive(Clone, Copy)]
 pub struct Seen {
     pub layers: u32,
     pub width: u32,
@@ -117,7 +119,7 @@ pub struct Seen {
 }
 
 // How far a pass is judged: the verdict, and what its views have fixed.
-#[derive(Drop)]
+#[derive(Clone, Copy)]
 pub struct Progress {
     pub verdict: Verdict,
     pub seen: Seen,
@@ -125,7 +127,7 @@ pub struct Progress {
 
 // A surface: texture, mip, layer and slice (TextureSurfaceDiscard). A 3D texture has one layer, another one slice.
 #[repr(C)]
-#[derive(Drop)]
+#[derive(Clone, Copy)]
 pub struct Surface {
     pub texture: u32,
     pub mip: u32,
@@ -134,7 +136,7 @@ pub struct Surface {
 }
 
 // So many mips and layers of a texture, from the first of each on, at one slice (TextureInitRange).
-#[derive(Drop)]
+#[derive(Clone, Copy)]
 pub struct Range {
     pub texture: u32,
     pub mip: u32,
@@ -145,14 +147,14 @@ pub struct Range {
 }
 
 // Whether an action needs its surfaces initialized, or initializes them itself.
-#[derive(Drop)]
+#[derive(Clone, Copy)]
 pub enum MemoryInitKind {
     ImplicitlyInitialized,
     NeedsInitializedMemory,
 }
 
 // TextureInitTrackerAction.
-#[derive(Drop)]
+#[derive(Clone, Copy)]
 pub struct Action {
     pub range: Range,
     pub kind: MemoryInitKind,
@@ -161,7 +163,7 @@ pub struct Action {
 // One attachment of a reply. Usage: 1 COLOR_TARGET, 2 DEPTH_STENCIL_READ, 3 that with RESOURCE, 4 DEPTH_STENCIL_WRITE.
 // Operations: 1 Load, 2 Clear, 4 DontCare, plus 8 Store, 16 Discard; 0 for a resolve target. `ops` is of colour or depth.
 #[repr(C)]
-#[derive(Drop)]
+#[derive(Clone, Copy)]
 pub struct Attachment {
     pub view: u32,
     pub usage: u32,

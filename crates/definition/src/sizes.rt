@@ -115,7 +115,7 @@ pub const ROW_BYTES: usize = 4 * ROW_NUMBERS;
 pub const ROWS_BYTES: usize = ROW_BYTES * (MAX_PASSES as usize);
 
 // Every size and limit of this file.
-#[derive(Drop)]
+#[derive(Clone, Copy)]
 pub struct Sizes {
     pub header_bytes: usize,
     pub texture_bytes: usize,

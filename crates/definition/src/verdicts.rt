@@ -42,6 +42,7 @@ pub fn refused_at(n: u32, place: u32) -> Verdict
 }
 
 // Number n at the place, where the test fails.
+#[tactic(auto, unfolding(crate::specs::Verdict::unless))]
 pub fn unless(ok: bool, n: u32, place: u32) -> Verdict
     ensures { result ≡ D.unless ok n place }
 {
@@ -49,6 +50,7 @@ pub fn unless(ok: bool, n: u32, place: u32) -> Verdict
 }
 
 // The same, compared with the view at an earlier place.
+#[tactic(auto, unfolding(crate::specs::Verdict::unless_against))]
 pub fn unless_against(ok: bool, n: u32, place: u32, earlier: u32) -> Verdict
     ensures { result ≡ D.unless_against ok n place earlier }
 {

@@ -19,7 +19,7 @@ use definition::{Channel, Verdict};
 use encoding::f32_of_bits;
 
 // LoadOp<f32>.
-#[derive(Drop)]
+#[derive(Clone, Copy)]
 pub enum DepthLoadOp {
     Load,
     Clear(f32),
@@ -27,14 +27,14 @@ pub enum DepthLoadOp {
 }
 
 // A load that may be absent.
-#[derive(Drop)]
+#[derive(Clone, Copy)]
 pub enum DepthLoadField {
     Absent,
     Is(DepthLoadOp),
 }
 
 // PassChannel<Option<f32>>: what a pass asks of its depth. The value of a Clear counts where it is given.
-#[derive(Drop)]
+#[derive(Clone, Copy)]
 pub struct DepthChannel {
     pub load: DepthLoadField,
     pub given: bool,
@@ -43,21 +43,21 @@ pub struct DepthChannel {
 }
 
 // Operations<f32>.
-#[derive(Drop)]
+#[derive(Clone, Copy)]
 pub struct DepthOps {
     pub load: DepthLoadOp,
     pub store: StoreOp,
 }
 
 // ResolvedPassChannel<f32>.
-#[derive(Drop)]
+#[derive(Clone, Copy)]
 pub enum ResolvedDepth {
     ReadOnly,
     Operational(DepthOps),
 }
 
 // A resolved channel, or the number that refuses it.
-#[derive(Drop)]
+#[derive(Clone, Copy)]
 pub enum DepthAnswer {
     Channel(ResolvedDepth),
     Refused(u32),

@@ -18,7 +18,7 @@ use definition::verdicts::{AT_DEPTH_STENCIL, accepted, refused_at};
 use definition::{Channel, Verdict};
 
 // LoadOp<u32>.
-#[derive(Drop)]
+#[derive(Clone, Copy)]
 pub enum StencilLoadOp {
     Load,
     Clear(u32),
@@ -26,14 +26,14 @@ pub enum StencilLoadOp {
 }
 
 // A load that may be absent.
-#[derive(Drop)]
+#[derive(Clone, Copy)]
 pub enum StencilLoadField {
     Absent,
     Is(StencilLoadOp),
 }
 
 // PassChannel<Option<u32>>: what a pass asks of its stencil. The value of a Clear counts where it is given.
-#[derive(Drop)]
+#[derive(Clone, Copy)]
 pub struct StencilChannel {
     pub load: StencilLoadField,
     pub given: bool,
@@ -42,21 +42,21 @@ pub struct StencilChannel {
 }
 
 // Operations<u32>.
-#[derive(Drop)]
+#[derive(Clone, Copy)]
 pub struct StencilOps {
     pub load: StencilLoadOp,
     pub store: StoreOp,
 }
 
 // ResolvedPassChannel<u32>.
-#[derive(Drop)]
+#[derive(Clone, Copy)]
 pub enum ResolvedStencil {
     ReadOnly,
     Operational(StencilOps),
 }
 
 // A resolved channel, or the number that refuses it.
-#[derive(Drop)]
+#[derive(Clone, Copy)]
 pub enum StencilAnswer {
     Channel(ResolvedStencil),
     Refused(u32),

@@ -1,5 +1,7 @@
 // The operations that a pass asks for: numbers 10 to 26, in document 01's order (fill_arc_desc).
 // Every function is total, and its contract is an equation with the definition.
+#![tactic(auto)]
+
 ghost use Rattle.std.specs.Prelude.{◌≡◌};
 ghost use Rattle.definition.specs.Check as Ck;
 ghost use Rattle.definition.specs.Session.{session};

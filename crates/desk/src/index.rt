@@ -10,7 +10,7 @@ use session::texture;
 
 // The place of a surface's byte. `number` is 0, or the refusal; then the index is 0.
 #[repr(C)]
-#[derive(Drop)]
+#[derive(Clone, Copy)]
 pub struct SurfaceIndex {
     pub number: u32,
     pub index: u32,

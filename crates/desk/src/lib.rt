@@ -1,6 +1,8 @@
 // The entry points of the desk check, for callers in C and Rust. Each tests its own input and has no `requires`; its contract is one
 // promise (specs/Promise, specs/Whole), which says what the reply means and what the lent lists and status bytes then hold, refused or not.
 // In EntryPoints of specs/ and proofs/: demand 3 of calls of deskcheck_pass and deskcheck_submit, one after the other from fresh buffers.
+#![tactic(auto)]
+
 pub mod index;
 
 ghost use Rattle.std.specs.Prelude.{◌≡◌};

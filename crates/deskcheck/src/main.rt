@@ -1,5 +1,7 @@
 // `deskcheck`: reads a session from standard input and prints its lines, or its refusal, to standard output.
 // All between reading and writing (`streams`) is proved.
+#![tactic(auto)]
+
 ghost use Rattle.std.specs.Prelude.{◌≤◌, length};
 ghost use Rattle.report.specs.Text.{printed_bytes};
 ghost use Rattle.report.specs.Output.{output};

@@ -1,5 +1,7 @@
 // The discards after an accepted pass, written where they are lent: those that stay by all its plans, in order, and then those that it lists,
 // an entry for each layer of a discarded view.
+#![tactic(auto)]
+
 ghost use Rattle.std.specs.Prelude.{◌≡◌, ◌++◌, ◌+◌, ◌≤◌, length, drop};
 ghost use Rattle.definition.specs.Sizes.{max_layers, surface_bytes, count_bytes, list_bytes};
 ghost use Rattle.definition.specs.Surfaces.{layers_of};

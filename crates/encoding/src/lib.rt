@@ -1,6 +1,8 @@
 // Little-endian numbers and floats, read from bytes, and numbers written into them. Every position has an answer: past the
 // end a byte reads as 0, and a number that does not fit whole is not written. Of the public functions only `u32_inside` has
 // a `requires`: who knows that four bytes lie inside reads them untested.
+#![tactic(auto)]
+
 ghost use Rattle.std.specs.Prelude.{◌≡◌, ◌+◌, ◌*◌, ◌^◌, ◌≤◌, ◌<◌, length, get_or};
 ghost use Rattle.std.specs.Float.{binary32, binary64};
 ghost use Rattle.std.specs.Float.Ieee.{to_bits};
@@ -9,7 +11,7 @@ ghost use Rattle.encoding.specs.Reading.{eight_at};
 ghost use Rattle.encoding.specs.Writing.{put_bytes, put_number};
 
 // Eight u32 that stand in a row.
-#[derive(Drop)]
+#[derive(Clone, Copy)]
 pub struct Eight {
     pub n0: u32,
     pub n1: u32,

@@ -1,5 +1,7 @@
 // Texture formats by document 01's numbers: their aspects, siblings and bytes per sample, and mip sizes. Every number has an answer: a number that is
 // no format has no aspect and costs nothing, and a mip past the last has size 1.
+#![tactic(auto)]
+
 ghost use Rattle.std.specs.Prelude.{◌≡◌, ◌+◌, ◌/◌, ◌^◌, ◌%◌, ◌≤◌, ◌<◌};
 ghost use Rattle.definition.specs.Formats as Fo;
 ghost use Rattle.definition.specs.Formats.{is_color, is_depth_stencil, is_format, has_depth, has_stencil, remove_srgb_suffix, target_cost, round_up, with_color, mip_size};

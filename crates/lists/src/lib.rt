@@ -1,5 +1,7 @@
 // Lists that a caller lends as bytes: a count, and then records, all numbers little-endian u32. Records are read and written where they
 // stand; the contracts speak of the records, so that the lists are lists of them. What is read or written lies inside, which the caller knows.
+#![tactic(auto)]
+
 ghost use Rattle.std.specs.Prelude.{◌≡◌, ◌+◌, ◌≤◌, ◌<◌, length, drop};
 ghost use Rattle.std.proofs.lemmas.List.Edits.{sets};
 ghost use Rattle.definition.specs.Sizes.{surface_bytes, action_bytes, count_bytes, list_bytes};

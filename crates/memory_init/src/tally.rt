@@ -15,7 +15,7 @@ use lists::{count, surface_at};
 use ranges::hits;
 
 // What one plan finds: the discards that leave the list, those of them that are returned as clears, and the actions that it adds.
-#[derive(Drop)]
+#[derive(Clone, Copy)]
 pub struct Found {
     pub leaving: usize,
     pub returned: usize,
@@ -23,7 +23,7 @@ pub struct Found {
 }
 
 // The same of all plans of a pass, and whether the discards have room at every step.
-#[derive(Drop)]
+#[derive(Clone, Copy)]
 pub struct Tally {
     pub fits: bool,
     pub leaving: usize,

@@ -1,4 +1,6 @@
 // A range of surfaces, as the lists of a command buffer have it: which surfaces it has, those of its layers, and one surface as a range.
+#![tactic(auto)]
+
 ghost use Rattle.std.specs.Prelude.{◌≡◌};
 ghost use Rattle.definition.specs.Surfaces as Surfaces;
 

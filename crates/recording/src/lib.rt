@@ -1,6 +1,8 @@
 // The port of memory_init.rs: what an accepted pass leaves in the lists, which are written where they are lent. The actions and the clears go
 // by the discards as they are found, then come the discards, every removal before every entry. Where no discard leaves its list, the
 // discards are not looked at. No function refuses for want of room, which the caller knows beforehand.
+#![tactic(auto)]
+
 ghost use Rattle.std.specs.Prelude.{◌≡◌, ◌++◌, map, ◌+◌, ◌≤◌, length, drop};
 ghost use Rattle.std.proofs.Math.Option.{some};
 ghost use Rattle.definition.specs.Sizes.{surface_bytes, action_bytes, count_bytes, list_bytes};

@@ -1,6 +1,8 @@
 // The check of one pass: numbers 5 and 10 to 51, the reply, and what it leaves in the lent lists (RenderPassInfo).
 // It decides first and writes last: judging reads the lists where they are lent, and only an accepted pass is recorded.
 // In `summary`: the same of a pass of a whole session, where the discards and a count of actions stand for the lists.
+#![tactic(auto)]
+
 pub mod summary;
 
 ghost use Rattle.std.specs.Prelude.{◌≡◌, true, cond, ◌+◌, ◌*◌, ◌≤◌};
@@ -32,7 +34,7 @@ use view_checks::views::none_seen;
 // The reply to one pass, as C callers see it: numbers, and attachments in as many records as a pass has at most. Of a refused pass every
 // field after `earlier` is 0. Of the lent clears, the first `clears` are returned.
 #[repr(C)]
-#[derive(Drop)]
+#[derive(Clone, Copy)]
 pub struct Reply {
     pub number: u32,
     pub place: u32,

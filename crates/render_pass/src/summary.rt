@@ -17,7 +17,7 @@ use memory_init::tally::tally_pass;
 use session::PassRow;
 
 // What a row says of a pass, and how many actions there are after it.
-#[derive(Drop)]
+#[derive(Clone, Copy)]
 pub struct PassSummary {
     pub verdict: Verdict,
     pub width: u32,

@@ -1,5 +1,7 @@
 // Replays a fixed list of sessions with the Rust's answers, read from standard input, and prints how many agree. harness/README.md
 // has the list's form: records of a session and the words of its answer.
+#![tactic(auto)]
+
 ghost use Rattle.std.specs.Prelude.{◌≡◌, ◌≤◌, ◌<◌, length};
 ghost use Rattle.definition.specs.Sizes.{max_passes};
 ghost use Rattle.replay.specs.Room.{list_bytes};
@@ -157,7 +159,7 @@ fn record(list: &[u8], at: usize) -> Place
 }
 
 // Sessions of the list, and how many of them agree.
-#[derive(Drop)]
+#[derive(Clone, Copy)]
 struct Tally {
     sessions: usize,
     agree: usize,

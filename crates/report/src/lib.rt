@@ -1,5 +1,7 @@
 // What `deskcheck` prints for a file, written to the front of a buffer of `PRINTED_BYTES` bytes: a line a pass.
 // In `text` numbers and lines as bytes, in `oversize` the refusal of a file that is longer than any session.
+#![tactic(auto)]
+
 mod oversize;
 mod text;
 

@@ -12,7 +12,7 @@ use encoding::has_bit;
 use formats::mip_size;
 
 // What the views of a pass have in common.
-#[derive(Drop)]
+#[derive(Clone, Copy)]
 pub struct Extent {
     pub width: u32,
     pub height: u32,

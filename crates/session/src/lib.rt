@@ -1,6 +1,8 @@
 // The header and rows of a session file, by value. Every byte string and every number has an answer, since a byte past the end reads as 0;
 // only `texture_inside`, `view_inside` and `surfaces::surface_offset` have a `requires`, which their callers know.
 // In `header` its fields, in `derived` and `surfaces` what follows from the rows.
+#![tactic(auto)]
+
 pub mod derived;
 pub mod header;
 pub mod surfaces;
@@ -18,7 +20,7 @@ use encoding::{Eight, eight_at, eight_inside, f64_of_halves, u32_at, u32_inside}
 use header::{TEXTURE_COUNT, VIEW_COUNT, texture_count, view_count};
 
 // A pass, by where its row stands: after so many textures, views and passes.
-#[derive(Drop)]
+#[derive(Clone, Copy)]
 pub struct PassRow {
     pub textures: u32,
     pub views: u32,

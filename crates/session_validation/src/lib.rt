@@ -1,5 +1,7 @@
 // Which byte strings are sessions and which pass rows can be read: document 01's numbers 1 to 5. Every byte string has an
 // answer, no public function has a `requires`, and a session is read once, in time linear in its length.
+#![tactic(auto)]
+
 ghost use Rattle.std.specs.Prelude.{◌≡◌};
 ghost use Rattle.definition.specs.Session as Se;
 ghost use Rattle.definition.specs.Session.{session};

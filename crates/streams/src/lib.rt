@@ -3,6 +3,8 @@
 //
 // No contract can say what is read or written. What remains to be believed: that the buffer holds the input's first bytes and the length
 // is the input's (`Holds`, of `print`), and that the bytes that are written reach standard output.
+#![tactic(auto)]
+
 ghost use Rattle.std.specs.Prelude.{◌+◌, ◌≤◌, ◌<◌, length};
 ghost use Rattle.definition.specs.Sizes.{longest_session};
 ghost use Rattle.report.specs.Held.{Enough};
@@ -11,21 +13,21 @@ use libc::{STDIN_FILENO, STDOUT_FILENO};
 use report::past_length_field;
 
 // How many bytes were read, or are to be written, and whether a read failed.
-#[derive(Drop)]
+#[derive(Clone, Copy)]
 pub struct Bytes {
     pub count: usize,
     pub failed: bool,
 }
 
 // The length of the input, and whether a read failed.
-#[derive(Drop)]
+#[derive(Clone, Copy)]
 struct Length {
     bytes: u64,
     failed: bool,
 }
 
 // What was read: the buffer holds the first `held` bytes of an input of `bytes` bytes.
-#[derive(Drop)]
+#[derive(Clone, Copy)]
 pub struct File {
     pub held: usize,
     pub bytes: u64,

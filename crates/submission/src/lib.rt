@@ -1,5 +1,7 @@
 // A submission: the actions run in order, then the discards mark empty; the new status bytes are the definition's for every surface.
 // It goes once over the bytes, once over the textures, and then over the surfaces that the actions and the discards name.
+#![tactic(auto)]
+
 ghost use Rattle.std.specs.Prelude.{◌≡◌, true, ◌+◌, ◌≤◌, ◌<◌, length};
 ghost use Rattle.definition.specs.Sizes.{max_surfaces, surface_bytes, action_bytes, list_bytes};
 ghost use Rattle.definition.specs.Session.{session, surface_count, surface_index, surfaces_of};

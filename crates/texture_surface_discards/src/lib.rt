@@ -1,5 +1,7 @@
 // The discard list as a lent slice of records (Vec<TextureSurfaceDiscard>), for callers in C.
 // Both functions have the flat form's contracts, over the records' numbers, and test what they are given: neither has a `requires`.
+#![tactic(auto)]
+
 ghost use Rattle.std.specs.Prelude.{not, ◌≡◌};
 ghost use Rattle.definition.specs.Surfaces as Surfaces;
 ghost use Rattle.texture_surface_discards.specs.Slices.{range_of, Listed, Kept};
@@ -9,7 +11,7 @@ use ranges::hits;
 
 // A range as C lays it out.
 #[repr(C)]
-#[derive(Drop)]
+#[derive(Clone, Copy)]
 pub struct TextureInitRange {
     pub texture: u32,
     pub mip: u32,

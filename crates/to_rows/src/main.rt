@@ -1,4 +1,6 @@
 // `to_rows`: reads a session file from standard input and writes it with its pass part rearranged back to rows to standard output.
+#![tactic(auto)]
+
 use column_files::answer;
 use columns::Way;
 use streams::write_text;

@@ -1,6 +1,8 @@
 // The whole session in one walk from fresh lists: every pass is judged, discards and actions are submitted at each buffer's end, and a row of nine
 // numbers says of each pass: pass, refusal, place, earlier place, width, height, samples, clears returned, length of the discard list.
 // The discards and a count of actions stand for the lists. In `words`: a row's numbers as bytes.
+#![tactic(auto)]
+
 pub mod words;
 
 ghost use Rattle.std.specs.Prelude.{◌≡◌, ◌+◌, ◌-◌, ◌*◌, ◌≤◌, ◌<◌, length, drop};
@@ -19,7 +21,7 @@ use session::{PassRow, ends, pass_row};
 use words::write_numbers;
 
 // The row of a pass, and how many actions there are before the next one.
-#[derive(Drop)]
+#[derive(Clone, Copy)]
 pub struct Row {
     pub numbers: [u32; ROW_NUMBERS],
     pub actions: usize,

@@ -1,0 +1,16 @@
+-- The invariant: the first i bytes are written, and what is left of the number is n / 256 ^ i.
+use mathlib.Core.Path.{◌≡◌, refl, sym, ap, ◌∙◌}
+use native.Mathlib.Omega.{arith}
+use Prim.Native.Nat.{◌+◌, ◌-◌, ◌/◌, ◌^◌, ◌≤◌}
+use native.Mathlib.Numerals.{add-one}
+use native.Mathlib.Nat.{div-one}
+use lib.ListN.{length, length-set}
+use Rattle.encoding.specs.Writing.{put_bytes}
+use Rattle.encoding.proofs.Writing.{put_length, shifted}
+use Rattle.encoding.proofs.put_bytes.Given as goal
+
+abbrev pub invariant-loop-i : goal.invariant-loop-i
+invariant-loop-i l = (l.s ≡ put_bytes l.initial.s l.at l.n l.i) × (l.rest ≡ l.n / 256 ^ l.i) × (l.i ≤ l.k) × (l.at + l.k ≤ length l.s)
+
+abbrev pub decreases-loop-i : goal.decreases-loop-i
+decreases-loop-i l = l.k - l.i
