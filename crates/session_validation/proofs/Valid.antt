@@ -11,7 +11,7 @@ use lib.ListN.{length}
 use borrow.Author.Tests.{leb-true, ltb-true, eqb-true}
 use Rattle.definition.specs.Sizes.{header_bytes, max_slots, max_size, max_layers, max_mips, max_usage, max_surfaces}
 use Rattle.definition.specs.Formats.{is_color, is_format}
-use Rattle.definition.specs.Session.{Pass, Session, session, texture_count, view_count, total_length, is_none, array_layers, surface_count}
+use Rattle.definition.specs.Session.{Pass, Session, session, total_length, is_none, array_layers, surface_count}
 use Rattle.definition.specs.Readable.{between, length_valid, header_valid, samples_valid, texture_valid, textures_read, textures_valid, session_refusal, channel_reads, depth_stencil_reads, resolve_reads, slot_reads, slots_read, pass_valid}
 use Rattle.definition.specs.declared.Texture.{Texture}
 use Rattle.definition.specs.declared.Slot.{Slot}
