@@ -1,6 +1,6 @@
 -- Numbers and records in bytes: what is written is read back, and stands in the list as a record.
-use Prim.Native.Nat.{ℕ, zero, suc, ◌+◌, ◌*◌, ◌/◌, ◌%◌, ◌≤◌, ◌<◌}
-use native.Mathlib.Nat.{add-zero, mod-eq_of_lt, not-suc-le-zero}
+use Prim.Native.Nat.{ℕ, suc, ◌+◌, ◌*◌, ◌/◌, ◌%◌, ◌≤◌, ◌<◌}
+use native.Mathlib.Nat.{add-zero, mod-eq_of_lt}
 use native.Mathlib.Omega.{arith}
 use mathlib.Core.Path.{◌≡◌, refl, sym, ap, ◌∙◌}
 use mathlib.Core.List.{List, [], ◌∷◌, ◌++◌}
@@ -81,7 +81,7 @@ number_in k i j at b h e =
 
 -- b' is b with the number x at a place, and x is a u32.
 abbrev Put : List ℕ → ℕ → ℕ → List ℕ → Type 0
-Put b at x b' = (b' ≡ sets b at (bytes_of x)) × (x < 4294967296)
+Put b at x b' = record { b_after : b' ≡ sets b at (bytes_of x); n_bound : x < 4294967296 }
 
 -- The bytes of a record write it.
 stored : {A : Type 0} (k : ℕ) (decode : List ℕ → A) (i : ℕ) (vs b b' : List ℕ) (s : A) → length vs ≡ k → list_bytes k (i + 1) ≤ length b → decode vs ≡ s → b' ≡ sets b (list_bytes k i) vs
@@ -117,17 +117,12 @@ surface_stored b b₁ b₂ b₃ b₄ i s room t m l z =
     let a₁ = bytes_of s.texture in
     let a₂ = a₁ ++ bytes_of s.mip in
     let a₃ = a₂ ++ bytes_of s.layer in
-    let e₂ = next a₁ (bytes_of s.mip) b b₁ b₂ at (at + 4) t.0 refl m.0 in
-    let e₃ = next a₂ (bytes_of s.layer) b b₂ b₃ at (at + 8) e₂ refl l.0 in
-    let e₄ = next a₃ (bytes_of s.slice) b b₃ b₄ at (at + 12) e₃ refl z.0 in
-    stored surface_bytes surface_of i (bytes_of_surface s) b b₄ s refl room (surface_decoded s t.1 m.1 l.1 z.1) e₄
+    let e₂ = next a₁ (bytes_of s.mip) b b₁ b₂ at (at + 4) t.b_after refl m.b_after in
+    let e₃ = next a₂ (bytes_of s.layer) b b₂ b₃ at (at + 8) e₂ refl l.b_after in
+    let e₄ = next a₃ (bytes_of s.slice) b b₃ b₄ at (at + 12) e₃ refl z.b_after in
+    stored surface_bytes surface_of i (bytes_of_surface s) b b₄ s refl room (surface_decoded s t.n_bound m.n_bound l.n_bound z.n_bound) e₄
 
 -- ── actions
-
--- A number that is not 0 is a needing kind's.
-pub kind_needs : (n : ℕ) → 0 < n → NeedsInitializedMemory ≡ kind_of n
-kind_needs zero h = absurd (not-suc-le-zero h)
-kind_needs (suc n) h = refl
 
 -- The seven numbers of an action, where they stand.
 pub action_read : (b : List ℕ) (i : ℕ) → let at = list_bytes action_bytes i in
@@ -168,10 +163,10 @@ action_stored b b₁ b₂ b₃ b₄ b₅ b₆ b₇ i n r k room e t m c l o d z 
     let a₄ = a₃ ++ bytes_of r.layer in
     let a₅ = a₄ ++ bytes_of r.layers in
     let a₆ = a₅ ++ bytes_of (number_of k) in
-    let e₂ = next a₁ (bytes_of r.mip) b b₁ b₂ at (at + 4) t.0 refl m.0 in
-    let e₃ = next a₂ (bytes_of r.mips) b b₂ b₃ at (at + 8) e₂ refl c.0 in
-    let e₄ = next a₃ (bytes_of r.layer) b b₃ b₄ at (at + 12) e₃ refl l.0 in
-    let e₅ = next a₄ (bytes_of r.layers) b b₄ b₅ at (at + 16) e₄ refl o.0 in
-    let e₆ = next a₅ (bytes_of (number_of k)) b b₅ b₆ at (at + 20) e₅ refl (d.0 ∙ ap (λ q. sets b₅ (at + 20) (bytes_of q)) e) in
-    let e₇ = next a₆ (bytes_of r.slice) b b₆ b₇ at (at + 24) e₆ refl z.0 in
-    stored action_bytes action_of_bytes i (bytes_of_action r k) b b₇ (action_of r k) refl room (action_decoded r k t.1 m.1 c.1 l.1 o.1 z.1) e₇
+    let e₂ = next a₁ (bytes_of r.mip) b b₁ b₂ at (at + 4) t.b_after refl m.b_after in
+    let e₃ = next a₂ (bytes_of r.mips) b b₂ b₃ at (at + 8) e₂ refl c.b_after in
+    let e₄ = next a₃ (bytes_of r.layer) b b₃ b₄ at (at + 12) e₃ refl l.b_after in
+    let e₅ = next a₄ (bytes_of r.layers) b b₄ b₅ at (at + 16) e₄ refl o.b_after in
+    let e₆ = next a₅ (bytes_of (number_of k)) b b₅ b₆ at (at + 20) e₅ refl (d.b_after ∙ ap (λ q. sets b₅ (at + 20) (bytes_of q)) e) in
+    let e₇ = next a₆ (bytes_of r.slice) b b₆ b₇ at (at + 24) e₆ refl z.b_after in
+    stored action_bytes action_of_bytes i (bytes_of_action r k) b b₇ (action_of r k) refl room (action_decoded r k t.n_bound m.n_bound c.n_bound l.n_bound o.n_bound z.n_bound) e₇

@@ -1,5 +1,5 @@
 -- A lent list in bytes: a count, and then records of k bytes, all numbers little-endian u32.
-use Rattle.std.specs.Prelude.{ℕ, zero, suc, ◌+◌, ◌/◌, ◌%◌, ◌≤◌, ◌<◌, ◌≡◌, cond, List, [], ◌∷◌, ◌++◌, leb, length, drop}
+use Rattle.std.specs.Prelude.{ℕ, zero, suc, ◌/◌, ◌%◌, ◌≤◌, ◌<◌, ◌≡◌, cond, List, [], ◌∷◌, ◌++◌, leb, length, drop}
 use Rattle.definition.specs.Sizes.{surface_bytes, action_bytes, count_bytes, list_bytes}
 use Rattle.definition.specs.Bytes.{u32_at}
 use Rattle.definition.specs.Surfaces.{surface_at, range_at}
