@@ -89,6 +89,7 @@ fn row_bytes_of(way: Way, n: usize) -> usize
 }
 
 // Whether so many bytes are the rows of so many passes, at most 100.
+#[tactic(auto, unfolding(crate::specs::Columns::is_part))]
 fn is_part(passes: u32, bytes: usize) -> bool
     ensures { result ≡ C.is_part passes bytes }
 {
@@ -96,6 +97,7 @@ fn is_part(passes: u32, bytes: usize) -> bool
 }
 
 // 0, or 2 for the pass count or the length, then 6 for a target that is too short.
+#[tactic(auto, unfolding(crate::specs::Columns::rearrange_number))]
 fn rearrange_number(passes: u32, bytes: usize, room: usize) -> u32
     ensures { result ≡ C.rearrange_number passes bytes room }
 {
@@ -123,22 +125,21 @@ pub fn rearrange(way: Way, passes: u32, part: &[u8], target: &mut [u8]) -> u32
 
 // The pass part by columns: 0, or 2 for the pass count or the length, then 6 for a target that is too short. The bytes of the
 // target past them stay; a refusal leaves every byte.
-#[unsafe(no_mangle)]
-pub extern "C" fn deskcheck_columns(passes: u32, rows: &[u8], columns: &mut [u8]) -> u32
+pub fn deskcheck_columns(passes: u32, rows: &[u8], columns: &mut [u8]) -> u32
     ensures { Rearranged To.Columns passes rows.now columns.old result columns.new }
 {
     rearrange(Way::Columns, passes, rows, columns)
 }
 
 // The way back.
-#[unsafe(no_mangle)]
-pub extern "C" fn deskcheck_rows(passes: u32, columns: &[u8], rows: &mut [u8]) -> u32
+pub fn deskcheck_rows(passes: u32, columns: &[u8], rows: &mut [u8]) -> u32
     ensures { Rearranged To.Rows passes columns.now rows.old result rows.new }
 {
     rearrange(Way::Rows, passes, columns, rows)
 }
 
 // Whether so many bytes are the columns of so many passes, and j is one of the 504.
+#[tactic(auto, unfolding(crate::specs::Columns::has_column))]
 fn has_column(passes: u32, bytes: usize, j: u32) -> bool
     ensures { result ≡ C.has_column passes bytes j }
 {
@@ -146,8 +147,8 @@ fn has_column(passes: u32, bytes: usize, j: u32) -> bool
 }
 
 // Where column j of so many passes stands, or 2. Refused or not, it is a part of the columns.
-#[unsafe(no_mangle)]
-pub extern "C" fn deskcheck_column(passes: u32, columns: &[u8], j: u32) -> ColumnPlace
+#[tactic(auto, using(crate::proofs::Refusals::placed, crate::proofs::Refusals::not_placed, crate::proofs::Refusals::column_inside))]
+pub fn deskcheck_column(passes: u32, columns: &[u8], j: u32) -> ColumnPlace
     ensures value { result ≡ C.column_place passes (length columns.now) j }
     ensures bytes_in_bounds { result.first + result.bytes ≤ length columns.now }
 {

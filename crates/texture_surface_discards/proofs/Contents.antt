@@ -30,14 +30,11 @@ appended_records n r s l l' long h c =
     let count : r ≡ n + 1 = append_count surface_numbers decode_surface n r (s ∷ []) (numbers l) (numbers l') c in
     sym (slice_records r l' (omega (arith, count, long, h))) ∙ c.first ∙ ap (λ q. q ++ (s ∷ [])) (slice_records n l (omega (arith, h)))
 
--- With room the discard is appended; without, n is handed back and the slice stays.
+-- With room the discard is appended.
 pub listed : (n : ℕ) (s : Surface) (l : List Surface) → n < length l → Listed n s l (set l n s) (n + 1)
 listed n s l h =
     let said = write_append surface_numbers decode_surface n s (numbers l) (numbers (set l n s)) (slice_written l n s h) in
     record { appended = λ _. said; records = λ _. appended_records n (n + 1) s l (set l n s) (length-set l n s) h said; refused = λ full. absurd (omega (arith, h, full)) }
-
-pub no_room : (n : ℕ) (s : Surface) (l : List Surface) → length l ≤ n → Listed n s l l n
-no_room n s l h = record { appended = λ fits. absurd (omega (arith, h, fits)); records = λ fits. absurd (omega (arith, h, fits)); refused = λ _. (refl, refl) }
 
 -- After a compaction: those of the first n that the definition keeps.
 pub retained_records : (n r : ℕ) (range : Range) (l l' : List Surface) → length l' ≡ length l → n ≤ length l → Retained surface_numbers decode_surface (λ s. not (hits range s)) n (numbers l) (numbers l') r

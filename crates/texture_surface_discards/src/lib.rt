@@ -37,8 +37,8 @@ fn stays(range: TextureInitRange, s: Surface) -> bool
 }
 
 // A discard goes after the first n: n + 1. Where the slice has no room for it, n, and the slice stays.
-#[unsafe(no_mangle)]
-pub extern "C" fn deskcheck_discard(discards: &mut [Surface], n: usize, s: Surface) -> usize
+#[tactic(auto, using(crate::proofs::Contents::listed))]
+pub fn deskcheck_discard(discards: &mut [Surface], n: usize, s: Surface) -> usize
     ensures { Listed n s discards.old discards.new result }
 {
     if discards.len() <= n {
@@ -49,12 +49,7 @@ pub extern "C" fn deskcheck_discard(discards: &mut [Surface], n: usize, s: Surfa
 }
 
 // The discards outside the range stay, in order (Vec::retain): how many. Where n is past the slice's end, n, and the slice stays.
-#[unsafe(no_mangle)]
-pub extern "C" fn deskcheck_retain(
-    discards: &mut [Surface],
-    n: usize,
-    range: TextureInitRange,
-) -> usize
+pub fn deskcheck_retain(discards: &mut [Surface], n: usize, range: TextureInitRange) -> usize
     ensures { Kept n (range_of range) discards.old discards.new result }
 {
     if discards.len() < n {
