@@ -1,0 +1,20 @@
+-- The bytes so far are swept by the mips so far.
+use native.Mathlib.Omega.{arith}
+use mathlib.Core.Path.{refl, ◌∙◌}
+use Prim.Native.Nat.{zero-le}
+use Rattle.definition.specs.Session.{session}
+use Rattle.submission.proofs.Sweeps.{mips_none, mips_further}
+use Rattle.submission.proofs.act.Goals as goal
+
+pub loop-m-init : goal.loop-m-init
+loop-m-init c =
+    (mips_none (session c.args.s.now) c.args.range c.requires.1.0 c.args.kind c.args.status-1.now, zero-le, refl)
+
+pub loop-m-preserved : goal.loop-m-preserved
+loop-m-preserved c =
+    let at = c in
+    let start = at in (
+      mips_further (session start.args.s.now) start.args.range start.requires.1.0 start.args.kind at.loop-m.m start.args.status-1.now at.loop-m.status-1 _ at.loop-m.invariant.0 c.act_mip.ensures,
+      omega arith,
+      c.act_mip.auto.1.1.0 ∙ at.loop-m.invariant.2,
+    )

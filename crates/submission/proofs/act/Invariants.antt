@@ -1,0 +1,17 @@
+-- The bytes so far are swept by the mips so far.
+use native.Mathlib.Omega.{arith}
+use mathlib.Core.Path.{◌≡◌, refl, ap, ◌∙◌}
+use Prim.Native.Nat.{ℕ, ◌-◌, ◌≤◌, zero-le}
+use lib.ListN.{length}
+use Rattle.definition.specs.Session.{session, surfaces_of}
+use Rattle.laws.specs.Plans.{action_of}
+use Rattle.laws.specs.Submission.{sweep, act_at}
+use Rattle.submission.specs.Runs.{first_mips}
+use Rattle.submission.proofs.Sweeps.{mips_none, mips_further}
+use Rattle.submission.proofs.act.Given as goal
+
+abbrev pub invariant-loop-m : goal.invariant-loop-m
+invariant-loop-m l = (l.status ≡ sweep (act_at (action_of (first_mips l.range l.m) l.kind)) (surfaces_of (session l.s)) l.initial.status) × (l.m ≤ l.range.mips) × (length l.status ≡ length l.initial.status)
+
+abbrev pub decreases-loop-m : goal.decreases-loop-m
+decreases-loop-m l = l.range.mips - l.m

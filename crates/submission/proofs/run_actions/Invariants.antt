@@ -1,0 +1,22 @@
+-- The bytes so far are swept by the actions so far.
+use native.Mathlib.Omega.{arith}
+use mathlib.Core.Path.{◌≡◌, refl, sym, ap, subst, ◌∙◌}
+use Prim.Native.Nat.{ℕ, ◌-◌, ◌≤◌, zero-le}
+use lib.ListN.{length}
+use Rattle.definition.specs.Session.{session, surfaces_of}
+use Rattle.laws.specs.Surfaces.{RangeInside}
+use Rattle.laws.specs.Submission.{sweep_acts}
+use Rattle.laws.proofs.Surfaces.{range_inside}
+use Rattle.lists.specs.Lists.{count_in, action_in, first_actions}
+use borrow.Author.Rules.{rules}
+use Rattle.submission.proofs.Sweeps.{actions_none, action_further}
+use Rattle.submission.proofs.Lent.{actions_each}
+use Rattle.submission.proofs.run_actions.Given as goal
+
+-- cannot parse
+abbrev invariant-loop : tie.invariant-loop
+invariant-loop s bases status₀ b n i₀ status i =
+    (status ≡ sweep_acts (first_actions i b) (surfaces_of (session s)) status₀) × (i ≤ n) × (length status ≡ length status₀) × (n ≡ count_in b)
+
+abbrev pub decreases-loop-i : goal.decreases-loop-i
+decreases-loop-i l = l.n - l.i
