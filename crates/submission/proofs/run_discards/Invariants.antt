@@ -14,10 +14,8 @@ use Rattle.submission.proofs.Sweeps.{discards_none, discard_further}
 use Rattle.submission.proofs.Lent.{surfaces_each}
 use Rattle.submission.proofs.run_discards.Given as goal
 
--- cannot parse
-abbrev invariant-loop : tie.invariant-loop
-invariant-loop s bases status₀ b n i₀ status i =
-    (status ≡ sweep (empty_at (first_surfaces i b)) (surfaces_of (session s)) status₀) × (i ≤ n) × (length status ≡ length status₀) × (n ≡ count_in b)
+abbrev pub invariant-loop-i : goal.invariant-loop-i
+invariant-loop-i l = (l.status ≡ sweep (empty_at (first_surfaces l.i l.b)) (surfaces_of (session l.s)) l.initial.status) × (l.i ≤ l.n) × (length l.status ≡ length l.initial.status) × (l.n ≡ count_in l.b)
 
 abbrev pub decreases-loop-i : goal.decreases-loop-i
 decreases-loop-i l = l.n - l.i
