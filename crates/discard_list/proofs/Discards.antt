@@ -2,11 +2,10 @@
 use Prim.Native.Nat.{ℕ, zero, suc, ◌+◌, ◌-◌, ◌≤◌, ◌<◌}
 use native.Mathlib.Omega.{arith}
 use mathlib.Core.Path.{◌≡◌, refl, sym, ap, transport, ◌∙◌}
-use mathlib.Core.Bool.{Bool, true, false, not, ◌&&◌, cond}
+use mathlib.Core.Bool.{Bool, true, false, ◌&&◌, cond}
 use mathlib.Core.List.{List, [], ◌∷◌, ◌++◌}
 use mathlib.Core.Option.{Option, none, some}
 use lib.ListN.{length, drop, get_or, length-append}
-use borrow.Author.Tests.{not-true, not-false}
 use Rattle.definition.specs.Sizes.{surface_bytes, count_bytes}
 use Rattle.definition.specs.Surfaces.{surface_at, layers_from, layers_of}
 use Rattle.definition.specs.MemoryInit.{retain}
@@ -67,12 +66,12 @@ module _ (ps : Plans) (whole : Whole ps) (o p : Planned) (s : Surface) (i : ℕ)
       ∙ left
 
   -- It stays by the next: it stays as by those behind it.
-  pub stays_further : not b ≡ false → stays (drop (i + 1) (plans_in ps)) s ≡ stays (plans_in ps) s
-  stays_further h = ap (λ q. q && stays (drop (i + 1) (plans_in ps)) s) (sym (not-false b h)) ∙ turned
+  pub stays_further : b ≡ true → stays (drop (i + 1) (plans_in ps)) s ≡ stays (plans_in ps) s
+  stays_further h = ap (λ q. q && stays (drop (i + 1) (plans_in ps)) s) (sym h) ∙ turned
 
   -- It leaves by the next: it leaves.
-  pub stays_not : not b ≡ true → false ≡ stays (plans_in ps) s
-  stays_not h = ap (λ q. q && stays (drop (i + 1) (plans_in ps)) s) (sym (not-true b h)) ∙ turned
+  pub stays_not : b ≡ false → false ≡ stays (plans_in ps) s
+  stays_not h = ap (λ q. q && stays (drop (i + 1) (plans_in ps)) s) (sym h) ∙ turned
 
 -- After the last plan it stays.
 pub stays_done : (ps : Plans) → Whole ps → (s : Surface) (i : ℕ) → i ≡ ps.count → stays (drop i (plans_in ps)) s ≡ stays (plans_in ps) s → true ≡ stays (plans_in ps) s

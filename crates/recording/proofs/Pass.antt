@@ -15,7 +15,7 @@ use Rattle.definition.specs.declared.MemoryInitKind.{MemoryInitKind}
 use Rattle.laws.specs.Records.{records}
 use Rattle.laws.specs.Plans.{Plan, leaving_by, leaving_all, staying_all, returned_all, added_all, listed_all, together}
 use Rattle.laws.proofs.Plans.{none_returned, none_implicit}
-use Rattle.lists.specs.Lists.{surface_of, action_of_bytes, count_in, surfaces_in, actions_in, Room, SurfacesBecome, ActionsBecome, first_surfaces}
+use Rattle.lists.specs.Lists.{action_of_bytes, count_in, surfaces_in, actions_in, Room, SurfacesBecome, ActionsBecome, first_surfaces}
 use Rattle.lists.specs.Lent.{ListBytes, bytes, lists_in, Leaves}
 use Rattle.lists.proofs.Lists.{list_length}
 use Rattle.memory_init.specs.declared.Plans.{Plans}
