@@ -1,4 +1,4 @@
-//! Links a proved library, which `rt staticlib` writes: a part of the build scripts.
+//! Links a proved library, which `tools/library.sh` writes: a part of the build scripts.
 
 use std::path::Path;
 
@@ -12,7 +12,7 @@ pub fn library(name: &str) {
     let library = folder.join(format!("lib{name}.a"));
     println!("cargo::rerun-if-changed={}", library.display());
     if !library.is_file() {
-        println!("cargo::error=target/staticlib/lib{name}.a is missing: run make test, or rt staticlib {name} first");
+        println!("cargo::error=target/staticlib/lib{name}.a is missing: run make test, or tools/library.sh {name} first");
         return;
     }
     println!("cargo::rustc-link-search=native={}", folder.display());

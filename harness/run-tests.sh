@@ -1,7 +1,7 @@
 #!/usr/bin/env bash
 # Builds the harness and runs all its tests, without network. Prints what failed; the last line
 # says how many tests passed and failed. A build that fails counts as one failed test.
-# The proved libraries are built first where they are missing or older than a source, the programs where they are missing.
+# The proved libraries and programs are built first where they are missing or older than a source.
 set -u
 cd "$(dirname "${BASH_SOURCE[0]}")" || exit 1
 
@@ -11,9 +11,7 @@ trap 'rm -f "$log"' EXIT
 ../tools/library.sh
 ../tools/library.sh texture_surface_discards
 ../tools/library.sh columns
-for program in deskcheck to_columns to_rows; do
-    [ -f "../target/bin/$program" ] || (cd .. && rt check "$program")
-done
+../tools/program.sh deskcheck to_columns to_rows
 
 RUST_BACKTRACE=0 cargo test --offline --locked --workspace --no-fail-fast >"$log" 2>&1
 status=$?

@@ -2,10 +2,10 @@
  * The desk check: says of each render pass of a session file whether it would be accepted, and which
  * surfaces must be cleared first.
  *
- * Link target/staticlib/libdesk.a, which `rt staticlib desk` writes (x86-64 Linux). Beside it the
+ * Link target/staticlib/libdesk.a, which `tools/library.sh desk` writes (x86-64 Linux). Beside it the
  * library needs memcpy and memset, as every C library has them, and nothing else. It allocates nothing,
  * has no variables that outlive a call and prints nothing. It exports the five functions below, each
- * proved against its contract in crates/desk.
+ * proved against its contract in crates/desk_c, which is that of its namesake in crates/desk.
  *
  * What holds of every function:
  *

@@ -2,9 +2,10 @@
  * The pass part of a session by columns: byte 0 of all passes, then byte 1, up to the last byte of a
  * pass; and back. Passes of one layer are alike, so like bytes stand side by side.
  *
- * Link target/staticlib/libcolumns.a, which `rt staticlib columns` writes (x86-64 Linux); it needs
+ * Link target/staticlib/libcolumns.a, which `tools/library.sh columns` writes (x86-64 Linux); it needs
  * nothing beside it. It allocates nothing, has no variables that outlive a call and prints nothing. It
- * exports the three functions below, each proved against its contract in crates/columns.
+ * exports the three functions below, each proved against its contract in crates/columns_c, which is that
+ * of its namesake in crates/columns.
  *
  * The pass part of a session of n passes is the DESKCHECK_PASS_LEN * n bytes from its pass offset on,
  * which reach to its end. By columns they are as many: column j is the n bytes from byte n * j on, and

@@ -1,9 +1,10 @@
 /*
  * The discard list of a command buffer as an array of records that the caller owns.
  *
- * Link target/staticlib/libtexture_surface_discards.a, which `rt staticlib texture_surface_discards`
- * writes (x86-64 Linux); it needs nothing beside it. Both functions test n; only the C rules of a pointer and its
- * length are the caller's: the pointer points to so many records. It may be NULL where the length is 0.
+ * Link target/staticlib/libtexture_surface_discards.a, which
+ * `tools/library.sh texture_surface_discards` writes (x86-64 Linux); it needs nothing beside it. Both
+ * functions test n; only the C rules of a pointer and its length are the caller's: the pointer points to so
+ * many records. It may be NULL where the length is 0.
  */
 #ifndef TEXTURE_SURFACE_DISCARDS_H
 #define TEXTURE_SURFACE_DISCARDS_H

@@ -2,12 +2,12 @@
 # crates/*/proofs, the code, and docs/DEFINITION.md. Prints the three promises with their places, the theorems about columns, and what they rest on. A line that starts
 # with 'FAILED: ' says what does not hold.
 
-# The file of a module of specs/, as of Rattle·lists.specs.Lists; of any other module nothing.
+# The file of a module of specs/, as of Rattle.lists.specs.Lists; of any other module nothing.
 function file_of(module,    crate, path) {
-    if (module !~ /^Rattle·/ || module !~ /\.specs\./) return ""
-    sub(/^Rattle·/, "", module)
+    if (module !~ /^Rattle\.[^.]*\.specs\./) return ""
+    sub(/^Rattle\./, "", module)
     crate = path = module
-    sub(/(·specs)?\.specs\..*/, "", crate)
+    sub(/\..*/, "", crate)
     sub(/^[^.]*\.specs\./, "", path)
     gsub(/\./, "/", path)
     return "crates/" crate "/specs/" path ".antt"
@@ -33,9 +33,9 @@ function takes(file, line,    module, names, n, i, parts) {
     }
 }
 
-# The word by which a text cites a name: `then` for `_then_`.
+# The word by which a text cites a name: `then` for `◌then◌`.
 function bare(name) {
-    if (name ~ /^_.*_$/) return substr(name, 2, length(name) - 2)
+    gsub(/^◌|◌$/, "", name)
     return name
 }
 
@@ -198,6 +198,9 @@ END {
         if (asked[f]) print "FAILED: " part[2] " has a requires"
     }
     if (!count) print "FAILED: no exported function"
+    for (i = 1; i <= contracts; i++) if (is_exported[functions[i]]) { split(functions[i], part, SUBSEP); exported_name[part[2]] = 1 }
+    # The C functions stand in crates of their own, and each calls the function of its name below: its contract is told once.
+    for (i = 1; i <= contracts; i++) { split(functions[i], part, SUBSEP); if (part[2] in exported_name) is_handed[functions[i]] = 0 }
 
     print "\n2. It answers as the definition says: what the contract of each exported function cites, of each that hands a part back to Rattle callers, and of each function of a program that promises its text."
     for (i = 1; i <= contracts; i++) {

@@ -37,7 +37,9 @@ none() { # WHAT PATTERN FILES..
 }
 echo
 echo "What is left open or assumed in the sources:"
-none "holes (?, {! !})" '\?|\{!' "${definitions[@]}" "${proofs[@]}" "${code[@]}"
+none "holes (?, {! !})" '\?|\{!' "${definitions[@]}" "${proofs[@]}"
+# (behind a value, ? is the code's own operator)
+none "holes in clauses" '[[:space:](]\?|\{!' "${code[@]}"
 none "axioms" '(^|[^[:alnum:]_-])axiom([^[:alnum:]_-]|$)|Prim\.Axiom' "${definitions[@]}" "${proofs[@]}" "${code[@]}"
 none "C functions that a crate declares" 'extern "C" *\{' "${code[@]}"
 
@@ -45,58 +47,63 @@ none "C functions that a crate declares" 'extern "C" *\{' "${code[@]}"
 
 echo
 echo "What the kit says:"
-rt check > "$logs/check" 2>&1
-status=$?
-echo "  rt check: $(tail -n 1 "$logs/check")"
-if [ "$status" -ne 0 ]; then
-    grep -E '^rt: .*NOT PROVED|error' "$logs/check" | head -n 20
-    fail "rt check ended with status $status"
-fi
 
-# The last line of the check that proved a library: it names no C function that is assumed. One that uses the kit's C functions is for programs,
-# which say below what they assume; what C callers link is asked for that too.
-libraries=0 functions=0 programs=() exporting=()
+# Where the kit declares a C function, as libc::read or libc::heap::rattle_alloc.
+kit=$(dirname "$(rt doc)")/rattle
+declared() { # CRATE::..::FUNCTION
+    grep -rn "fn ${1##*::}(" "$kit/${1%%::*}/src" | head -n 1 | sed -e "s|^$kit/||" -e 's/:\([0-9]*\):.*/:\1/'
+}
+
+# Proves a crate, over what earlier checks kept, and leaves its last line in `line`, which is no verdict where the crate is not proved.
+# Of a program and of a static library the check also lists the C functions whose contracts the verdict rests on, in all the crates that it reaches.
+proved() { # WHAT NAME
+    (cd "crates/$2" && rt check --list-axioms) > "$logs/check" 2>&1
+    line=$(grep '^logic=' "$logs/check" | tail -n 1)
+    case $line in
+    "logic=proved "*foreign=* | "logic=proved "*pinned=no*) fail "$1 $2: $line" ;;
+    "logic=proved "*) return 0 ;;
+    *)
+        grep -E '^fn .*: (not proved|no proof)|error' "$logs/check" | head -n 5
+        fail "$1 $2: ${line:-rt check gave no verdict}"
+        ;;
+    esac
+    return 1
+}
+
+# What a program, or a library that C callers link, assumes of C functions.
+assumes() { # WHAT NAME
+    local word
+    proved "$1" "$2" || return
+    echo "  $1 $2 assumes $(sed -n 's/.* axioms=\([0-9]*\).*/\1/p;t;s/.*/no/;p' <<< "$line") C functions"
+    sed -n '/^axioms /,$ s/^  \([A-Za-z0-9_:]*\)  *reached$/\1/p' "$logs/check" | while read -r word; do
+        echo "    $word  (kit) $(declared "$word")"
+    done
+    if [ "$1" = "the library" ] && [[ $line == *axioms=* ]]; then fail "$1 $2 rests on axioms"; fi
+    last=$line
+}
+
+# The crates of crates.txt, lowest first: the last line of a library that is proved names no C function that is assumed. One that uses the kit's C
+# functions is for programs, which say below what they assume; a static library, which C callers link, is asked for that too.
+libraries=0 functions=0 programs=() exporting=() last=
 while IFS=: read -r name uses; do
+    read -r name kind <<< "$name"
     if [ -f "crates/$name/src/main.rt" ]; then
         programs+=("$name")
         continue
     fi
-    grep -rqs '^pub extern "C" fn ' "crates/$name/src" && exporting+=("$name")
+    if [[ $kind == *staticlib* ]]; then
+        exporting+=("$name")
+        continue
+    fi
+    if grep -rqsE '^(pub )?(unsafe )?extern "C" fn ' "crates/$name/src"; then fail "the library $name exports a C function, and is no static library"; fi
     case " $uses " in *" libc "* | *" io "* | *" os "*) echo "  the library $name is for programs: it uses the kit's C functions" ;; esac
-    line=$(grep -s '^logic=' "target/log/$name.say" | tail -n 1)
-    case $line in
-    "logic=proved "*foreign=* | "logic=proved "*axioms=* | "logic=proved "*pinned=no*) fail "the library $name: $line" ;;
-    "logic=proved "*) libraries=$((libraries + 1)) functions=$((functions + $(expr "$line" : '.*functions=\([0-9]*\)'))) ;;
-    *) fail "the library $name: ${line:-no verdict in target/log/$name.say}" ;;
-    esac
+    if proved "the library" "$name"; then
+        if [[ $line == *axioms=* ]]; then fail "the library $name: $line"; fi
+        libraries=$((libraries + 1)) functions=$((functions + $(expr "$line" : '.*functions=\([0-9]*\)')))
+    fi
 done < <(sed 's/#.*//' crates.txt | grep :)
 echo "  $libraries libraries proved, $functions functions, with no hole and no axiom"
-
-# Where the kit declares a C function, as libc::read.
-kit=$(dirname "$(dirname "$(rt doc)")")
-declared() { # CRATE::..::FUNCTION
-    grep -rn "fn ${1##*::}(" "$kit/libs/${1%%::*}/src" | head -n 1 | sed -e "s|^$kit/||" -e 's/:\([0-9]*\):.*/:\1/'
-}
-
-# What a program, or a library that C callers link, assumes of C functions, in all the crates that it reaches.
-assumes() { # WHAT NAME WORDS..
-    local what=$1 name=$2 line word
-    shift 2
-    rt dev "$name" "$@" --list-axioms > "$logs/assumed" 2>&1
-    line=$(tail -n 1 "$logs/assumed")
-    case $line in
-    "logic=proved "*) ;;
-    *) fail "$what $name: $line" && return ;;
-    esac
-    echo "  $what $name assumes $(sed -n 's/.* axioms=\([0-9]*\).*/\1/p;t;s/.*/no/;p' <<< "$line") C functions"
-    sed -n '/^axioms /,$ s/^  \([a-z_:]*\)$/\1/p' "$logs/assumed" | while read -r word; do
-        echo "    $word  (kit) $(declared "$word")"
-    done
-    if [ "$what" = "the library" ] && [[ $line == *axioms=* ]]; then fail "$what $name rests on axioms"; fi
-    last=$line
-}
-last=
-for name in "${exporting[@]}"; do assumes "the library" "$name" --crate-type staticlib; done
+for name in "${exporting[@]}"; do assumes "the library" "$name"; done
 for name in "${programs[@]}"; do assumes "the program" "$name"; done
 echo "  the words of a last line (docs/PROVING.md): $last"
 

@@ -18,7 +18,7 @@ mkdir -p docs/measured
 work=$(mktemp -d)
 trap 'rm -rf "$work"' EXIT
 tools/library.sh columns
-rt check to_columns to_rows > /dev/null
+tools/program.sh to_columns to_rows
 
 # Runs the program of the measurements.
 measure() {

@@ -1,5 +1,6 @@
-// The entry points of the desk check, for callers in C and Rust. Each tests its own input and has no `requires`; its contract is one
-// promise (specs/Promise, specs/Whole), which says what the reply means and what the lent lists and status bytes then hold, refused or not.
+// The entry points of the desk check, for callers in Rattle, and through desk_c for callers in C and Rust. Each tests its own input and has no
+// `requires`; its contract is one promise (specs/Promise, specs/Whole), which says what the reply means and what the lent lists and status
+// bytes then hold, refused or not.
 // In EntryPoints of specs/ and proofs/: demand 3 of calls of deskcheck_pass and deskcheck_submit, one after the other from fresh buffers.
 #![tactic(auto)]
 
@@ -30,16 +31,14 @@ use submission::submit;
 use whole_session::session_rows;
 
 // The session's refusal: 0, or 1 to 4.
-#[unsafe(no_mangle)]
-pub extern "C" fn deskcheck_session_refusal(session: &[u8]) -> u32
+pub fn deskcheck_session_refusal(session: &[u8]) -> u32
     ensures { result ≡ session_refusal session.now }
 {
     session_refusal(session)
 }
 
 // Where the status byte of a surface stands: 1 to 4 for the session, 6 for a surface that it does not have, or 0 and the index.
-#[unsafe(no_mangle)]
-pub extern "C" fn deskcheck_surface_index(
+pub fn deskcheck_surface_index(
     session: &[u8],
     texture: u32,
     mip: u32,
@@ -95,8 +94,7 @@ fn submit_lent(
 
 // A submission: 0, or 6 for a buffer that is too short, 1 to 4 for the session, 6 for what is lent. The counts of discards and actions
 // are then 0 and the status bytes are the new ones; a refusal leaves every byte.
-#[unsafe(no_mangle)]
-pub extern "C" fn deskcheck_submit(
+pub fn deskcheck_submit(
     session: &[u8],
     discards: &mut [u8],
     actions: &mut [u8],
@@ -151,8 +149,7 @@ fn pass_lent(
 
 // The check of pass number i: 6 for a buffer that is too short, 1 to 4 for the session, 6 for what is lent, 5 and 10 to 51 for the pass.
 // An accepted pass replaces the clears and leaves discards and actions as they are after it; a refusal leaves every byte.
-#[unsafe(no_mangle)]
-pub extern "C" fn deskcheck_pass(
+pub fn deskcheck_pass(
     session: &[u8],
     i: u32,
     discards: &mut [u8],
@@ -177,8 +174,7 @@ pub extern "C" fn deskcheck_pass(
 
 // The whole session from fresh lists: 6 for rows that are too short, 1 to 4 for the session, or 0. Then every pass has its row, and the
 // bytes past the rows stay; a refusal leaves every byte.
-#[unsafe(no_mangle)]
-pub extern "C" fn deskcheck_session(session: &[u8], rows: &mut [u8]) -> u32
+pub fn deskcheck_session(session: &[u8], rows: &mut [u8]) -> u32
     ensures { WholePromise session.now rows.old result rows.new }
 {
     if rows.len() < ROWS_BYTES {

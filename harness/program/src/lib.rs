@@ -8,7 +8,7 @@ use std::thread;
 
 use checks::examples::repository;
 
-/// Where `rt check` writes the programs. tools/run.sh runs deskcheck from there.
+/// Where `tools/program.sh` puts the programs. tools/run.sh runs deskcheck from there.
 const PROGRAMS: &str = "target/bin";
 
 /// A program; it must be there.
@@ -16,7 +16,7 @@ fn program(name: &str) -> PathBuf {
     let path = repository(PROGRAMS).join(name);
     assert!(
         path.is_file(),
-        "{PROGRAMS}/{name} is missing: run rt check {name} first"
+        "{PROGRAMS}/{name} is missing: run tools/program.sh {name} first"
     );
     path
 }
