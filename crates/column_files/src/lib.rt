@@ -2,7 +2,7 @@
 // A refused session gets the line that `deskcheck` prints.
 #![tactic(auto)]
 
-ghost use Rattle.std.specs.Prelude.{◌≡◌, List, ℕ, ◌≤◌, length, take};
+ghost use Rattle.std.specs.Prelude.{◌≡◌, true, false, List, ℕ, ◌≤◌, length, take, MatchResult, IfOk, IfSome};
 ghost use Rattle.definition.specs.Sizes.{longest_session};
 ghost use Rattle.definition.specs.Readable.{session_refusal};
 ghost use Rattle.report.specs.Held.{Enough, Holds};
@@ -10,13 +10,14 @@ ghost use Rattle.report.specs.Printed.{Printed};
 ghost use Rattle.streams.specs.Answered.{Answered};
 ghost use Rattle.column_files.specs.Files.{rearranged, written, held_written};
 
-use bytes::copy;
 use columns::{Way, rearrange};
 use report::print_file;
 use session::header::pass_count;
 use session::pass_start;
 use session_validation::session_refusal;
-use streams::{Bytes, read_file};
+use std::io;
+use std::io::Read;
+use streams::{BUFFER_BYTES, read_file};
 
 // A readable session, rearranged: its length.
 fn put_rearranged(way: Way, session: &[u8], out: &mut [u8]) -> usize
@@ -24,7 +25,7 @@ fn put_rearranged(way: Way, session: &[u8], out: &mut [u8]) -> usize
     ensures { Printed out.old (rearranged way session.now) out.new result }
 {
     let start = pass_start(session);
-    copy(&session[..start], out);
+    out[..start].copy_from_slice(&session[..start]);
     rearrange(
         way,
         pass_count(session),
@@ -49,21 +50,17 @@ pub fn write_file(way: Way, buffer: &[u8], held: usize, bytes: u64, out: &mut [u
     put_rearranged(way, session, out)
 }
 
-// What is to be written for standard input; nothing where reading failed.
-pub fn answer(way: Way, out: &mut [u8]) -> Bytes
+// What is to be written for the input: its length. Where reading failed there is nothing.
+pub fn answer<R: Read>(way: Way, input: &mut R, out: &mut [u8]) -> io::Result<usize>
     requires { longest_session ≤ length out.old }
-    ensures { Answered (held_written way) (written way) out.old out.new result.count result.failed }
+    ensures answered { MatchResult result
+        (λ n. Answered (held_written way) (written way) out.old out.new n false)
+        (λ _. Answered (held_written way) (written way) out.old out.new 0 true) }
+    // Where it is known what the input is, it is the definition's.
+    ensures known { IfOk result (λ n. IfSome (R.remaining input.old) (λ file.
+        take n out.new ≡ written way file)) }
 {
-    let mut buffer = io::large_buffer();
-    let file = read_file(&mut buffer);
-    if file.failed {
-        return Bytes {
-            count: 0,
-            failed: true,
-        };
-    }
-    Bytes {
-        count: write_file(way, &buffer, file.held, file.bytes, out),
-        failed: false,
-    }
+    let mut buffer = [0u8; BUFFER_BYTES];
+    let file = read_file(input, &mut buffer)?;
+    Ok(write_file(way, &buffer, file.held, file.bytes, out))
 }

@@ -12,10 +12,11 @@ use definition::sizes::{
 };
 use desk::{deskcheck_pass, deskcheck_session, deskcheck_submit};
 use encoding::u32_at;
-use libc::{STDIN_FILENO, STDOUT_FILENO};
 use session::header::{pass_count, texture_count};
 use session::surfaces::surfaces_before;
 use session::{ends, pass_row};
+use std::io;
+use streams::read_head;
 
 // The next words are those of the end of pass k: a submission, if a buffer ends there.
 fn submission(
@@ -195,16 +196,11 @@ fn room() -> [u8; LIST_BYTES]
 }
 
 // Reads the list from standard input, and prints how many sessions agree.
-fn main() {
+fn main(rt: HostRuntime) -> io::Result<()> {
     let mut space = room();
-    let n = io::read_full(STDIN_FILENO, &mut space);
+    let n = read_head(&mut rt.stdin(), &mut space)?;
     let tally = replay(&space[..n]);
-    io::write_all(
-        STDOUT_FILENO,
-        b"sessions with the Rust's answers, made by make-answers of the harness from seed 9020\n",
-    );
-    io::print_decimal(STDOUT_FILENO, tally.agree as u64);
-    io::write_all(STDOUT_FILENO, b" of ");
-    io::print_decimal(STDOUT_FILENO, tally.sessions as u64);
-    io::write_all(STDOUT_FILENO, b" agree\n");
+    let (agree, sessions) = (tally.agree, tally.sessions);
+    println!(rt; "sessions with the Rust's answers, made by make-answers of the harness from seed 9020")?;
+    println!(rt; "{agree} of {sessions} agree")
 }

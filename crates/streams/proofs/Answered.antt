@@ -9,12 +9,12 @@ use Rattle.report.specs.Held.{Enough, Holds}
 use Rattle.report.specs.Printed.{Printed}
 use Rattle.streams.specs.Answered.{Answered}
 
-module _ {of-held : List ℕ → ℕ → ℕ → List ℕ} {of-file : List ℕ → List ℕ} where
-  pub no_text : (l : List ℕ) → Answered of-held of-file l l 0 true
+module _ {of_held : List ℕ → ℕ → ℕ → List ℕ} {of_file : List ℕ → List ℕ} where
+  pub no_text : (l : List ℕ) → Answered of_held of_file l l 0 true
   no_text l = record { fits = omega arith; counted = refl; none = λ e. (refl, refl); text = λ e. absurd (true≢false e) }
 
-  pub text_of : {l m : List ℕ} {n : ℕ} (buffer : List ℕ) {held bytes : ℕ} → Enough held bytes → Printed l (of-held buffer held bytes) m n
-      → ((file : List ℕ) → Holds buffer held bytes file → take n m ≡ of-file file) → Answered of-held of-file l m n false
+  pub text_of : {l m : List ℕ} {n : ℕ} (buffer : List ℕ) {held bytes : ℕ} → Enough held bytes → Printed l (of_held buffer held bytes) m n
+      → ((file : List ℕ) → Holds buffer held bytes file → take n m ≡ of_file file) → Answered of_held of_file l m n false
   text_of buffer {held} {bytes} enough printed defined = record {
     fits = printed.fits;
     counted = printed.counted;

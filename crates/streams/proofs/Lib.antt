@@ -1,2 +1,3 @@
 -- The root of this crate's proofs.
 pub mod Answered
+mod Pieces

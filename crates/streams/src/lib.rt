@@ -1,144 +1,147 @@
 // Standard input and output, for programs: a file is read to its end, what was made of it is written. Every input has an
 // answer: what is longer than any session is counted to its end. Where reading or writing fails, a line on standard error says so.
 //
-// No contract can say what is read or written. What remains to be believed: that the buffer holds the input's first bytes and the length
-// is the input's (`Holds`, of `print`), and that the bytes that are written reach standard output.
+// What stands in a reader, and what a writer holds, the contracts say where that is known (`R.remaining`, `W.contents`). Of standard input
+// and output it is not: there it remains to be believed that a read gives the input's next bytes and a write puts out those that it is given.
 #![tactic(auto)]
 
-ghost use Rattle.std.specs.Prelude.{◌+◌, ◌≤◌, ◌<◌, length};
+ghost use Rattle.std.specs.Prelude.{◌≡◌, ℕ, List, ◌+◌, ◌≤◌, ◌<◌, length, take, drop, IfOk, IfSome, OnOk, OnErr};
+ghost use Rattle.std.specs.Io.KnownBytes.{Appends, Consumes, IsAtEnd, Keeps};
+ghost use Rattle.std.specs.Process.{exit_status};
 ghost use Rattle.definition.specs.Sizes.{longest_session};
-ghost use Rattle.report.specs.Held.{Enough};
+ghost use Rattle.report.specs.Oversize.{length_bound};
+ghost use Rattle.report.specs.Held.{Enough, Holds};
 
-use libc::{STDIN_FILENO, STDOUT_FILENO};
 use report::past_length_field;
+use std::io;
+use std::io::{Eprint, Print, Read, Write};
+use std::process::ExitCode;
 
-// How many bytes were read, or are to be written, and whether a read failed.
-#[derive(Clone, Copy)]
-pub struct Bytes {
-    pub count: usize,
-    pub failed: bool,
-}
-
-// The length of the input, and whether a read failed.
-#[derive(Clone, Copy)]
-struct Length {
-    bytes: u64,
-    failed: bool,
-}
+// Bytes of a buffer that is longer than any session.
+pub const BUFFER_BYTES: usize = 65536;
 
 // What was read: the buffer holds the first `held` bytes of an input of `bytes` bytes.
 #[derive(Clone, Copy)]
 pub struct File {
     pub held: usize,
     pub bytes: u64,
-    pub failed: bool,
 }
 
-// One read. 0 bytes are the end of the input, or a failure.
-fn read_some(buf: &mut [u8]) -> Bytes
-    ensures { result.count ≤ length buf.new }
-{
-    let got = libc::read(STDIN_FILENO, buf);
-    Bytes {
-        count: io::count(got, buf),
-        failed: got < 0,
-    }
-}
-
-// The same, into the bytes from a place on.
-fn read_from(buf: &mut [u8], at: usize) -> Bytes
+// One read, into the bytes from a place on. 0 bytes are the end of the input.
+fn read_from<R: Read>(input: &mut R, buf: &mut [u8], at: usize) -> io::Result<usize>
     requires { at ≤ length buf.old }
-    ensures { at + result.count ≤ length buf.new }
+    ensures front { take at buf.new ≡ take at buf.old }
+    ensures fits { IfOk result (λ n. at + n ≤ length buf.new) }
+    ensures ok { IfOk result (λ n.
+        Consumes (R.remaining input.old) (R.remaining input.new) (take n (drop at buf.new))) }
+    ensures end { IfOk result (λ n.
+        n ≡ 0 → at < length buf.new → IsAtEnd (R.remaining input.new)) }
+    ensures err { OnErr result (Keeps (R.remaining input.old) (R.remaining input.new)) }
 {
-    read_some(&mut buf[at..])
+    input.read(&mut buf[at..])
 }
 
 // Reads until the buffer is full or the input ends.
-fn read_head(buf: &mut [u8]) -> Bytes
-    ensures { result.count ≤ length buf.new }
+pub fn read_head<R: Read>(input: &mut R, buf: &mut [u8]) -> io::Result<usize>
+    ensures fits { IfOk result (λ n. n ≤ length buf.new) }
+    ensures ok { IfOk result (λ n.
+        Consumes (R.remaining input.old) (R.remaining input.new) (take n buf.new)) }
+    ensures end { IfOk result (λ n. n < length buf.new → IsAtEnd (R.remaining input.new)) }
+    // What was read before the failure.
+    ensures err { OnErr result ((n : ℕ) × (n ≤ length buf.new)
+        × Consumes (R.remaining input.old) (R.remaining input.new) (take n buf.new)) }
 {
     let mut at: usize = 0;
     while at < buf.len() {
-        let more = read_from(buf, at);
-        if more.count == 0 {
-            return Bytes {
-                count: at,
-                failed: more.failed,
-            };
+        let more = read_from(input, buf, at)?;
+        if more == 0 {
+            return Ok(at);
         }
-        at += more.count;
+        at += more;
     }
-    Bytes {
-        count: at,
-        failed: false,
-    }
+    Ok(at)
 }
 
 // Reads on from so many bytes, to the end of the input or to a length that no length field has.
-fn read_rest(from: u64) -> Length
-    ensures { from ≤ result.bytes }
+fn read_rest<R: Read>(input: &mut R, from: u64) -> io::Result<u64>
+    ensures grows { IfOk result (λ n. from ≤ n) }
+    ensures ok { IfOk result (λ n. (bs : List ℕ) × (n ≡ from + length bs)
+        × Consumes (R.remaining input.old) (R.remaining input.new) bs) }
+    ensures end { IfOk result (λ n. n < length_bound → IsAtEnd (R.remaining input.new)) }
+    ensures err { OnErr result ((bs : List ℕ) × Consumes (R.remaining input.old) (R.remaining input.new) bs) }
 {
     let mut bytes = from;
-    let mut space = io::large_buffer();
+    let mut space = [0u8; BUFFER_BYTES];
     while !past_length_field(bytes) {
-        let more = read_some(&mut space);
-        if more.count == 0 {
-            return Length {
-                bytes: bytes,
-                failed: more.failed,
-            };
+        let more = input.read(&mut space)?;
+        if more == 0 {
+            return Ok(bytes);
         }
-        bytes += more.count as u64;
+        bytes += more as u64;
     }
-    Length {
-        bytes: bytes,
-        failed: false,
-    }
+    Ok(bytes)
 }
 
-// Reads standard input: the whole of it into the buffer, or as much as the buffer holds, and the rest is counted.
-pub fn read_file(buf: &mut [u8]) -> File
+// Reads the input: the whole of it into the buffer, or as much as the buffer holds, and the rest is counted.
+pub fn read_file<R: Read>(input: &mut R, buf: &mut [u8]) -> io::Result<File>
     requires { longest_session < length buf.old }
-    ensures { (result.held ≤ length buf.new) × Enough result.held result.bytes }
+    ensures ok { IfOk result (λ file. (file.held ≤ length buf.new) × Enough file.held file.bytes) }
+    ensures known { IfOk result (λ file. IfSome (R.remaining input.old) (λ xs.
+        Holds buf.new file.held file.bytes xs)) }
+    ensures err { OnErr result ((bs : List ℕ) × Consumes (R.remaining input.old) (R.remaining input.new) bs) }
 {
-    let failure = File {
-        held: 0,
-        bytes: 0,
-        failed: true,
-    };
-    let head = read_head(buf);
-    if head.failed {
-        return failure;
-    }
-    let held = head.count;
+    let held = read_head(input, buf)?;
     if held < buf.len() {
-        return File {
+        return Ok(File {
             held: held,
             bytes: held as u64,
-            failed: false,
-        };
+        });
     }
-    let rest = read_rest(held as u64);
-    if rest.failed {
-        return failure;
-    }
-    File {
+    let bytes = read_rest(input, held as u64)?;
+    Ok(File {
         held: held,
-        bytes: rest.bytes,
-        failed: false,
+        bytes: bytes,
+    })
+}
+
+// Writes the first bytes.
+pub fn write_first<W: Write>(output: &mut W, n: usize, out: &[u8]) -> io::Result<()>
+    requires { n ≤ length out.now }
+    ensures ok { OnOk result (Appends (W.contents output.old) (W.contents output.new) (take n out.now)) }
+    // What was written before the failure.
+    ensures err { OnErr result ((k : ℕ) × (k ≤ n)
+        × Appends (W.contents output.old) (W.contents output.new) (take k out.now)) }
+{
+    let mut done: usize = 0;
+    while done < n {
+        let more = output.write(&out[done..n])?;
+        if more == 0 {
+            return Err(io::Error::from(io::ErrorKind::WriteZero));
+        }
+        done += more;
     }
+    Ok(())
+}
+
+// Says on standard error which stream failed, and why: the status of a program that fails.
+fn fail<R: Eprint>(rt: &R, stream: &str, error: io::Error) -> ExitCode
+    ensures { exit_status result ≡ 1 }
+{
+    let _ = eprintln!(rt; "{stream}: {error}");
+    ExitCode::FAILURE
 }
 
 // Writes the first bytes to standard output, unless a read failed.
-pub fn write_text(text: Bytes, out: &[u8])
-    requires { text.count ≤ length out.now }
+pub fn write_text<R: Print + Eprint>(rt: &R, text: io::Result<usize>, out: &[u8]) -> ExitCode
+    requires { IfOk text (λ n. n ≤ length out.now) }
+    ensures { OnErr text (exit_status result ≡ 1) }
 {
-    if text.failed {
-        os::fail(b"standard input");
-        return;
-    }
-    let n = text.count;
-    if !io::write_all(STDOUT_FILENO, &out[..n]) {
-        os::fail(b"standard output");
+    let n = match text {
+        Ok(n) => n,
+        Err(error) => return fail(rt, "standard input", error),
+    };
+    match write_first(&mut io::writer(rt), n, out) {
+        Ok(()) => ExitCode::SUCCESS,
+        Err(error) => fail(rt, "standard output", error),
     }
 }

@@ -3,11 +3,12 @@
 
 use column_files::answer;
 use columns::Way;
-use streams::write_text;
+use std::process::ExitCode;
+use streams::{BUFFER_BYTES, write_text};
 
 // Reads standard input, and writes what the definition says of it.
-fn main() {
-    let mut out = io::large_buffer();
-    let text = answer(Way::Rows, &mut out);
-    write_text(text, &out);
+fn main(rt: HostRuntime) -> ExitCode {
+    let mut out = [0u8; BUFFER_BYTES];
+    let text = answer(Way::Rows, &mut rt.stdin(), &mut out);
+    write_text(&rt, text, &out)
 }
