@@ -8,13 +8,11 @@ use Rattle.submission.proofs.act.Goals as goal
 
 pub loop-m-init : goal.loop-m-init
 loop-m-init c =
-    (mips_none (session c.args.s.now) c.args.range c.requires.1.0 c.args.kind c.args.status-1.now, zero-le, refl)
+    (mips_none (session c.args.s.now) c.args.range c.requires.1.0 c.args.kind c.args.status.now, zero-le, refl)
 
 pub loop-m-preserved : goal.loop-m-preserved
-loop-m-preserved c =
-    let at = c in
-    let start = at in (
-      mips_further (session start.args.s.now) start.args.range start.requires.1.0 start.args.kind at.loop-m.m start.args.status-1.now at.loop-m.status-1 _ at.loop-m.invariant.0 c.act_mip.ensures,
-      omega arith,
-      c.act_mip.auto.1.1.0 ∙ at.loop-m.invariant.2,
-    )
+loop-m-preserved c = (
+  mips_further (session c.args.s.now) c.args.range c.requires.1.0 c.args.kind c.loop-m.m c.args.status.now c.loop-m.status _ c.loop-m.invariant.0 c.act_mip.ensures,
+  omega arith,
+  c.act_mip.auto.status ∙ c.loop-m.invariant.2,
+)

@@ -1,13 +1,11 @@
 -- The bytes so far are swept by the mips so far.
-use native.Mathlib.Omega.{arith}
-use mathlib.Core.Path.{◌≡◌, refl, ap, ◌∙◌}
-use Prim.Native.Nat.{ℕ, ◌-◌, ◌≤◌, zero-le}
+use mathlib.Core.Path.{◌≡◌}
+use Prim.Native.Nat.{◌-◌, ◌≤◌}
 use lib.ListN.{length}
 use Rattle.definition.specs.Session.{session, surfaces_of}
 use Rattle.laws.specs.Plans.{action_of}
 use Rattle.laws.specs.Submission.{sweep, act_at}
 use Rattle.submission.specs.Runs.{first_mips}
-use Rattle.submission.proofs.Sweeps.{mips_none, mips_further}
 use Rattle.submission.proofs.act.Given as goal
 
 abbrev pub invariant-loop-m : goal.invariant-loop-m

@@ -1,12 +1,9 @@
 -- The bytes so far are the run so far.
-use borrow.Author.Rules.{rules}
-use native.Mathlib.Omega.{arith}
-use mathlib.Core.Path.{◌≡◌, refl, sym, ap, ◌∙◌}
-use Prim.Native.Nat.{ℕ, ◌-◌, ◌≤◌, zero-le}
-use lib.ListN.{length, length-set}
+use mathlib.Core.Path.{◌≡◌}
+use Prim.Native.Nat.{◌-◌, ◌≤◌}
+use lib.ListN.{length}
 use Rattle.definition.specs.Status.{restart}
 use Rattle.submission.specs.Runs.{run}
-use Rattle.submission.proofs.Runs.{run_none, run_store}
 use Rattle.submission.proofs.restart_bytes.Given as goal
 
 abbrev pub invariant-loop-i : goal.invariant-loop-i

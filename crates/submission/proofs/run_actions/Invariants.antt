@@ -1,16 +1,10 @@
 -- The bytes so far are swept by the actions so far.
-use native.Mathlib.Omega.{arith}
-use mathlib.Core.Path.{◌≡◌, refl, sym, ap, subst, ◌∙◌}
-use Prim.Native.Nat.{ℕ, ◌-◌, ◌≤◌, zero-le}
+use mathlib.Core.Path.{◌≡◌}
+use Prim.Native.Nat.{◌-◌, ◌≤◌}
 use lib.ListN.{length}
 use Rattle.definition.specs.Session.{session, surfaces_of}
-use Rattle.laws.specs.Surfaces.{RangeInside}
 use Rattle.laws.specs.Submission.{sweep_acts}
-use Rattle.laws.proofs.Surfaces.{range_inside}
-use Rattle.lists.specs.Lists.{count_in, action_in, first_actions}
-use borrow.Author.Rules.{rules}
-use Rattle.submission.proofs.Sweeps.{actions_none, action_further}
-use Rattle.submission.proofs.Lent.{actions_each}
+use Rattle.lists.specs.Lists.{count_in, first_actions}
 use Rattle.submission.proofs.run_actions.Given as goal
 
 abbrev pub invariant-loop-i : goal.invariant-loop-i

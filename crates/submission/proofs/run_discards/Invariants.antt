@@ -1,17 +1,10 @@
 -- The bytes so far are swept by the discards so far.
-use borrow.Author.Rules.{rules}
-use native.Mathlib.Omega.{arith}
-use mathlib.Core.Path.{◌≡◌, refl, sym, ap, subst, ◌∙◌}
-use Prim.Native.Nat.{ℕ, ◌-◌, ◌≤◌, ◌<◌, zero-le}
-use lib.ListN.{length, length-set}
+use mathlib.Core.Path.{◌≡◌}
+use Prim.Native.Nat.{◌-◌, ◌≤◌}
+use lib.ListN.{length}
 use Rattle.definition.specs.Session.{session, surfaces_of}
-use Rattle.laws.specs.Surfaces.{Inside}
 use Rattle.laws.specs.Submission.{sweep, empty_at}
-use Rattle.laws.proofs.Surfaces.{surface_inside}
-use Rattle.laws.proofs.Places.{place_counted}
-use Rattle.lists.specs.Lists.{count_in, surface_in, first_surfaces}
-use Rattle.submission.proofs.Sweeps.{discards_none, discard_further}
-use Rattle.submission.proofs.Lent.{surfaces_each}
+use Rattle.lists.specs.Lists.{count_in, first_surfaces}
 use Rattle.submission.proofs.run_discards.Given as goal
 
 abbrev pub invariant-loop-i : goal.invariant-loop-i

@@ -1,12 +1,8 @@
 -- The entries so far, and the sum of the textures so far.
-use native.Mathlib.Omega.{arith}
-use mathlib.Core.Path.{◌≡◌, refl, sym, ap, ◌∙◌}
-use Prim.Native.Nat.{ℕ, ◌+◌, ◌-◌, ◌≤◌, ◌<◌, zero-le}
-use lib.ListN.{length, length-set, get_or}
-use Rattle.definition.specs.Session.{session, surfaces_in, surfaces_before}
-use Rattle.laws.proofs.Folds.{before_none, before_turn}
-use Rattle.submission.proofs.Bases.{entry_further, sum_fits}
-use borrow.Author.Rules.{rules}
+use mathlib.Core.Path.{◌≡◌}
+use Prim.Native.Nat.{ℕ, ◌-◌, ◌≤◌, ◌<◌}
+use lib.ListN.{length, get_or}
+use Rattle.definition.specs.Session.{session, surfaces_before}
 use Rattle.submission.proofs.texture_bases.Given as goal
 
 abbrev pub invariant-loop-k : goal.invariant-loop-k
