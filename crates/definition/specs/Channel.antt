@@ -32,7 +32,7 @@ keep_of n = eqb n 0
 abbrev pub operational : {X : Type 0} → LoadOp X → Bool → Ops X
 operational l keep = record { load = l; keep = keep; read_only = false }
 
--- A read-only channel loads and stores (W3C depth_read_only, stencil_read_only).
+-- A read-only channel loads and stores (W3C depthReadOnly, stencilReadOnly).
 abbrev pub read_only_ops : {X : Type 0} → Ops X
 read_only_ops = record { load = load_op; keep = true; read_only = true }
 
@@ -144,7 +144,7 @@ unfoldable pub resolve : {X Y : Type 0} → (X → Handled Y) → Bool → PassC
 resolve handle strict c =
     cond c.read_only (resolve_read_only c.load c.store) (resolve_ops handle strict c.load c.store)
 
--- W3C depth_clear_value: 0.0 to 1.0, both included. -0.0 is in it, and no NaN.
+-- W3C depthClearValue: 0.0 to 1.0, both included. -0.0 is in it, and no NaN.
 unfoldable pub depth_in_range : Float → Bool
 depth_in_range x = le (f32_of_bits 0) x && le x (f32_of_bits 0x3f80_0000)
 
@@ -153,7 +153,7 @@ abbrev pub handle_depth : Option Float → Handled Float
 handle_depth none = refusal 21
 handle_depth (some x) = cond (depth_in_range x) (value x) (refusal 22)
 
--- convert_stencil_value, W3C stencil_clear_value: the low 8 bits. Absent means 0.
+-- convert_stencil_value, W3C stencilClearValue: the low 8 bits. Absent means 0.
 abbrev pub handle_stencil : Option ℕ → Handled ℕ
 handle_stencil none = value 0
 handle_stencil (some n) = value (n % 256)

@@ -33,7 +33,7 @@ is_depth_stencil f = has_depth f || has_stencil f
 unfoldable pub is_format : ℕ → Bool
 is_format f = is_color f || is_depth_stencil f
 
--- The format without its s_rgb suffix: rgba8unorm of rgba8unorm-srgb, bgra8unorm of bgra8unorm-srgb.
+-- The format without its sRGB suffix: rgba8unorm of rgba8unorm-srgb, bgra8unorm of bgra8unorm-srgb.
 unfoldable pub remove_srgb_suffix : ℕ → ℕ
 remove_srgb_suffix f = cond (eqb f 4) 3 (cond (eqb f 6) 5 f)
 

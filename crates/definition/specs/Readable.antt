@@ -58,7 +58,7 @@ usage_among a b = leb a max_usage && bits_below a b 6
 unfoldable pub dimension_fits : ℕ → ℕ → Bool
 dimension_fits v t = eqb v 1 && eqb t 1 || eqb v 6 && eqb t 3 || between 2 5 v && eqb t 2
 
--- W3C "texture view format compatible": the formats are equal, or differ in the s_rgb suffix alone.
+-- W3C "texture view format compatible": the formats are equal, or differ in the sRGB suffix alone.
 unfoldable pub format_fits : ℕ → ℕ → Bool
 format_fits v t = eqb (remove_srgb_suffix v) (remove_srgb_suffix t)
 

@@ -38,7 +38,7 @@ view_verdict S seen v place =
     then unless_against (is_first seen || eqb (width_of S v) seen.width && eqb (height_of S v) seen.height) 35 place seen.last
     then unless_against (is_first seen || eqb (samples_of S v) seen.samples) 36 place seen.last
 
--- 39, 38 and 40 (W3C GPURenderPassColorAttachment Valid Usage: depth_slice).
+-- 39, 38 and 40 (W3C GPURenderPassColorAttachment Valid Usage: depthSlice).
 unfoldable pub slice_verdict : Session → Slot → View → ℕ → Verdict
 slice_verdict S c v place =
     cond (is_d3 v)
@@ -87,7 +87,7 @@ target_of S seen v r place =
     then unless (eqb r.resolvable 1) 44 place
     then unless (not (transient r)) 45 place
 
--- Both (W3C GPURenderPassColorAttachment Valid Usage: resolve_target).
+-- Both (W3C GPURenderPassColorAttachment Valid Usage: resolveTarget).
 unfoldable pub resolve_view : Session → Seen → List Surface → View → View → ℕ → Verdict
 resolve_view S seen taken v r place = target_view S seen taken r place then target_of S seen v r place
 

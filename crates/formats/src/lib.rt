@@ -80,7 +80,7 @@ pub fn is_format(format: u32) -> bool
     is_color(format) | is_depth_stencil(format)
 }
 
-// The format without its s_rgb suffix.
+// The format without its sRGB suffix.
 #[tactic(auto, unfolding(definition::specs::Formats::remove_srgb_suffix))]
 pub fn remove_srgb_suffix(format: u32) -> u32
     ensures { result ≡ remove_srgb_suffix format }
