@@ -145,7 +145,7 @@ FILENAME ~ /\.rt$/ {
     if ($0 ~ /^ghost use /) takes(FILENAME, $0)
     if ($0 ~ /^(pub )?(extern "C" )?fn /) {
         name = $0
-        sub(/\(.*/, "", name)
+        sub(/[(<].*/, "", name)
         sub(/.* /, "", name)
         exported = $0 ~ /^pub extern "C" fn /
         handed = FILENAME ~ /^crates\/columns\// && $0 ~ /^pub fn /

@@ -12,9 +12,9 @@ fail() { echo "FAILED: $*"; failed=$((failed + 1)); }
 
 # ── the promises, as the sources have them
 
-mapfile -t definitions < <(find crates -path 'crates/*/specs/*' -name '*.antt' | sort)
-mapfile -t proofs < <(find crates -path 'crates/*/proofs/*' -name '*.antt' | sort)
-mapfile -t code < <(find crates -path 'crates/*/src/*' -name '*.rt' | sort)
+mapfile -t definitions < <(find crates/*/specs -name '*.antt' | sort)
+mapfile -t proofs < <(find crates/*/proofs -name '*.antt' | sort)
+mapfile -t code < <(find crates/*/src -name '*.rt' | sort)
 awk -f tools/audit.awk "${definitions[@]}" "${proofs[@]}" "${code[@]}" docs/DEFINITION.md | tee "$logs/promises"
 [ "${PIPESTATUS[0]}" -eq 0 ] || fail "tools/audit.awk did not end"
 failed=$((failed + $(grep -c '^FAILED: ' "$logs/promises")))
@@ -82,10 +82,10 @@ assumes() { # WHAT NAME
     last=$line
 }
 
-# The crates of crates.txt, lowest first: the last line of a library that is proved names no C function that is assumed. One that uses the kit's C
-# functions is for programs, which say below what they assume; a static library, which C callers link, is asked for that too.
+# The crates of crates.txt, lowest first: the last line of a library that is proved names no C function that is assumed. What reads and writes by std
+# rests on the kit's C functions, which a program's own check lists below, and that of a static library, which C callers link, too.
 libraries=0 functions=0 programs=() exporting=() last=
-while IFS=: read -r name uses; do
+while IFS=: read -r name _; do
     read -r name kind <<< "$name"
     if [ -f "crates/$name/src/main.rt" ]; then
         programs+=("$name")
@@ -96,7 +96,6 @@ while IFS=: read -r name uses; do
         continue
     fi
     if grep -rqsE '^(pub )?(unsafe )?extern "C" fn ' "crates/$name/src"; then fail "the library $name exports a C function, and is no static library"; fi
-    case " $uses " in *" libc "* | *" io "* | *" os "*) echo "  the library $name is for programs: it uses the kit's C functions" ;; esac
     if proved "the library" "$name"; then
         if [[ $line == *axioms=* ]]; then fail "the library $name: $line"; fi
         libraries=$((libraries + 1)) functions=$((functions + $(expr "$line" : '.*functions=\([0-9]*\)')))

@@ -6,6 +6,7 @@ cd "$(dirname "${BASH_SOURCE[0]}")/.."
 name=${1:-desk}
 library=target/staticlib/lib$name.a
 if [ ! -f "$library" ] || [ -n "$(find crates crates.txt -name out -prune -o -type f -newer "$library" -print -quit)" ]; then
+    rm -f "$library"
     (cd "crates/${name}_c" && rt lib)
     mkdir -p target/staticlib
     cp "crates/${name}_c/out/lib${name}_c.a" "$library"

@@ -13,6 +13,7 @@ mkdir -p target/bin
 for name in "$@"; do
     program=target/bin/$name made=crates/$name/out/$name
     if current "$program"; then continue; fi
+    rm -f "$program"
     if ! current "$made"; then
         # This builds the program and runs it once, on what rt ci runs it on.
         (cd "crates/$name" && rt run < stdin) | cmp - "crates/$name/stdout"
