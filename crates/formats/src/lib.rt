@@ -16,6 +16,7 @@ pub fn is_color(format: u32) -> bool
 }
 
 // The depth and the stencil aspect of a format, in the order of W3C's table of depth-stencil formats.
+#[tactic(auto, unfolding(definition::specs::Formats::aspects))]
 fn aspects(format: u32) -> Aspects
     ensures { result ≡ Fo.aspects format }
 {
@@ -80,6 +81,7 @@ pub fn is_format(format: u32) -> bool
 }
 
 // The format without its s_rgb suffix.
+#[tactic(auto, unfolding(definition::specs::Formats::remove_srgb_suffix))]
 pub fn remove_srgb_suffix(format: u32) -> u32
     ensures { result ≡ remove_srgb_suffix format }
 {
@@ -91,6 +93,7 @@ pub fn remove_srgb_suffix(format: u32) -> u32
 }
 
 // What a colour of the format costs in a sample, in the order of W3C's table of colour formats.
+#[tactic(auto, unfolding(definition::specs::Formats::target_cost))]
 fn target_cost(format: u32) -> TargetCost
     ensures { (result ≡ target_cost format) × (1 ≤ result.alignment) × (result.alignment ≤ 4) × (result.cost ≤ 16) }
 {

@@ -4,11 +4,10 @@ use native.Mathlib.Omega.{arith}
 use Prim.Native.Nat.{◌/◌}
 use native.Mathlib.Numerals.{add-one}
 use native.Mathlib.Nat.{div-one}
-use lib.ListN.{length, length-set}
+use lib.ListN.{length-set}
 use Rattle.encoding.specs.Writing.{put_bytes}
-use Rattle.encoding.proofs.Writing.{put_length, shifted}
+use Rattle.encoding.proofs.Writing.{shifted}
 use Rattle.encoding.proofs.put_bytes.Goals as goal
-
 
 pub loop-i-init : goal.loop-i-init
 unfolding put_bytes

@@ -1,12 +1,8 @@
 -- The invariant: the first i bytes are written, and what is left of the number is n / 256 ^ i.
-use mathlib.Core.Path.{◌≡◌, refl, sym, ap, ◌∙◌}
-use native.Mathlib.Omega.{arith}
+use mathlib.Core.Path.{◌≡◌}
 use Prim.Native.Nat.{◌+◌, ◌-◌, ◌/◌, ◌^◌, ◌≤◌}
-use native.Mathlib.Numerals.{add-one}
-use native.Mathlib.Nat.{div-one}
-use lib.ListN.{length, length-set}
+use lib.ListN.{length}
 use Rattle.encoding.specs.Writing.{put_bytes}
-use Rattle.encoding.proofs.Writing.{put_length, shifted}
 use Rattle.encoding.proofs.put_bytes.Given as goal
 
 abbrev pub invariant-loop-i : goal.invariant-loop-i
