@@ -1,0 +1,7 @@
+-- Each field is the definition's number at its place in the row.
+use Rattle.definition.specs.Session.{session}
+use Rattle.session.proofs.texture.Goals as goal
+
+pub returns : goal.returns
+unfolding session
+returns c = simp (c.texture_of.ensures, c.eight_at.ensures)
