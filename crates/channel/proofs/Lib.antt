@@ -1,4 +1,3 @@
 pub mod Kind
 pub mod Asked
 pub mod Resolve
-pub mod Bits

@@ -62,6 +62,7 @@ fn with_clear(clear: Handled, store: StoreField) -> Answer
 impl PassChannel {
     // Of a transient attachment: n where both operations are given and are not Clear or DontCare with Discard,
     // m where one is absent and the channel is read-only.
+    #[tactic(auto, unfolding(definition::specs::Channel::transient_channel))]
     pub fn check_transient(self, n: u32, m: u32) -> Verdict
         ensures { result ≡ Ch.transient_channel (pass_in self) n m }
     {
@@ -118,6 +119,7 @@ impl PassChannel {
     }
 
     // 18 to 24. A read-only channel has no operations.
+    #[tactic(auto, using(crate::proofs::Resolve::read_only_lem, crate::proofs::Resolve::operational))]
     fn resolve_present(self, clear: Handled, strict: bool) -> Answer
         ensures { answer_in result ≡ Ch.resolve (always (handled_in clear)) strict (pass_in self) }
     {
@@ -129,6 +131,7 @@ impl PassChannel {
     }
 
     // n with an operation: the format lacks the aspect.
+    #[tactic(auto, using(crate::proofs::Resolve::absent))]
     fn resolve_absent(self, n: u32) -> Answer
         ensures { answer_in result ≡ Ch.resolve_absent (pass_in self) n }
     {
@@ -136,6 +139,7 @@ impl PassChannel {
     }
 
     // Of an aspect that the format has or lacks: 18 to 24, or n.
+    #[tactic(auto, unfolding(crate::specs::Kind::resolved_for))]
     pub fn resolve(self, has: bool, n: u32, clear: Handled, strict: bool) -> Answer
         ensures { answer_in result ≡ resolved_for (always (handled_in clear)) n has strict (pass_in self) }
     {
