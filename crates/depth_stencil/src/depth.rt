@@ -102,6 +102,7 @@ fn load_field(n: u32, x: f32) -> DepthLoadField
 // ── a clear value
 
 // 0.0 to 1.0, both included: -0.0 is in it, and no NaN.
+#[tactic(auto, unfolding(definition::specs::Channel::depth_in_range))]
 fn in_range(x: f32) -> bool
     ensures { result ≡ Ch.depth_in_range x }
 {
@@ -227,6 +228,7 @@ impl DepthChannel {
 }
 
 // The same by the row's numbers.
+#[tactic(auto, unfolding(definition::specs::Channel::depth_resolved, definition::specs::Channel::resolve_depth, channel::specs::Kind::resolved_for))]
 pub fn depth_resolved(has: bool, strict: bool, c: Channel) -> DepthAnswer
     ensures { answer_in result ≡ Ch.depth_resolved has strict c }
 {

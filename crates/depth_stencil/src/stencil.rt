@@ -221,6 +221,7 @@ impl StencilChannel {
 }
 
 // The same by the row's numbers.
+#[tactic(auto, unfolding(definition::specs::Channel::stencil_resolved, definition::specs::Channel::resolve_stencil, channel::specs::Kind::resolved_for))]
 pub fn stencil_resolved(has: bool, strict: bool, c: Channel) -> StencilAnswer
     ensures { answer_in result ≡ Ch.stencil_resolved has strict c }
 {
