@@ -43,6 +43,7 @@ fn one_layer(v: View) -> bool
 }
 
 // W3C "renderable texture view".
+#[tactic(auto, unfolding(definition::specs::Views::renderable))]
 pub fn renderable(v: View) -> bool
     ensures { result ≡ Vw.renderable v }
 {
@@ -69,6 +70,7 @@ pub fn check_multiview(s: &[u8], seen: Seen, v: View, place: u32) -> Verdict
 }
 
 // 34 to 36: renderable, and of the extent and sample count of the views before it.
+#[tactic(auto, unfolding(definition::specs::Views::view_verdict))]
 pub fn add_view(s: &[u8], seen: Seen, v: View, place: u32) -> Verdict
     ensures { result ≡ Vw.view_verdict (session s.now) seen v place }
 {
@@ -88,6 +90,7 @@ pub fn add_view(s: &[u8], seen: Seen, v: View, place: u32) -> Verdict
 }
 
 // A depth-stencil view: 30 to 36.
+#[tactic(auto, unfolding(definition::specs::Views::depth_stencil_view))]
 pub fn depth_stencil_view(s: &[u8], v: View) -> Verdict
     ensures { result ≡ Vw.depth_stencil_view (session s.now) v }
 {
@@ -99,6 +102,7 @@ pub fn depth_stencil_view(s: &[u8], v: View) -> Verdict
 }
 
 // What is seen after a depth-stencil or colour view: the first fixes layers, extent and samples.
+#[tactic(auto, unfolding(definition::specs::Views::see_view))]
 pub fn see_view(s: &[u8], seen: Seen, v: View, place: u32) -> Seen
     ensures { result ≡ Vw.see_view (session s.now) seen v place }
 {
