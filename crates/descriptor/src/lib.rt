@@ -94,6 +94,7 @@ fn channel_ops(
 }
 
 // The same of a pass, where it has a depth-stencil view.
+#[tactic(auto, unfolding(definition::specs::Check::depth_stencil_ops))]
 fn depth_stencil_ops(s: &[u8], pass: PassRow) -> Verdict
     ensures { result ≡ Ck.depth_stencil_ops (session s.now) (pass_in s.now pass) }
 {
