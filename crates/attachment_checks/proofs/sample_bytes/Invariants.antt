@@ -1,12 +1,9 @@
 -- The invariant: after slot k, the definition's sum of the first k slots, which has at most 19 bytes a slot.
-use mathlib.Core.Path.{◌≡◌, sym}
+use mathlib.Core.Path.{◌≡◌}
 use Prim.Native.Nat.{◌*◌, ◌≤◌, ◌-◌}
-use native.Mathlib.Omega.{arith}
-use borrow.Author.Rules.{rules}
 use Rattle.definition.specs.Session.{session}
 use Rattle.session.specs.Rows.{pass_in}
 use Rattle.definition.specs.Check.{sample_bytes}
-use Rattle.laws.proofs.Folds.{sample_none, sample_turn}
 use Rattle.attachment_checks.proofs.sample_bytes.Given as goal
 
 abbrev pub invariant-loop-k : goal.invariant-loop-k

@@ -1,12 +1,9 @@
 -- The invariant: after slot k, the definition's steps of the first k slots.
-use mathlib.Core.Path.{◌≡◌, sym}
+use mathlib.Core.Path.{◌≡◌}
 use Prim.Native.Nat.{◌≤◌, ◌-◌}
-use native.Mathlib.Omega.{arith}
-use borrow.Author.Rules.{rules}
 use Rattle.definition.specs.Session.{session}
 use Rattle.session.specs.Rows.{pass_in}
 use Rattle.definition.specs.Check.{slot_steps}
-use Rattle.laws.proofs.Folds.{steps_none, steps_turn}
 use Rattle.attachment_checks.proofs.slot_steps.Given as goal
 
 abbrev pub invariant-loop-k : goal.invariant-loop-k
