@@ -31,6 +31,7 @@ use view_checks::views::{
 };
 
 // 39, 38 and 40: a slice is given for a D3 view, inside its mip's depth, and for no other.
+#[tactic(auto, unfolding(definition::specs::Views::slice_verdict))]
 fn slice_verdict(s: &[u8], c: Slot, v: View, place: u32) -> Verdict
     ensures { result ≡ Vw.slice_verdict (session s.now) c v place }
 {
@@ -41,6 +42,7 @@ fn slice_verdict(s: &[u8], c: Slot, v: View, place: u32) -> Verdict
 }
 
 // The colour view v of slot k, of a pass whose colours fit into a sample or not: 30 to 40, 51, 41.
+#[tactic(auto, unfolding(definition::specs::Views::color_view))]
 fn color_view(s: &[u8], pass: PassRow, seen: Seen, fit: bool, c: Slot, v: View, k: u32) -> Verdict
     ensures { result ≡ Vw.color_view (session s.now) seen fit (taken_in s.now pass k) c v k }
 {
@@ -57,6 +59,7 @@ fn color_view(s: &[u8], pass: PassRow, seen: Seen, fit: bool, c: Slot, v: View, 
 }
 
 // A resolve target by itself: 30 to 33, 48, 41 and 34. Its colour view v is taken, and so is what the slots before k take.
+#[tactic(auto, unfolding(definition::specs::Views::target_view))]
 fn target_view(
     s: &[u8],
     pass: PassRow,
@@ -82,6 +85,7 @@ fn target_view(
 }
 
 // A resolve target against its colour view v: 35 and 42 to 45.
+#[tactic(auto, unfolding(definition::specs::Views::target_of))]
 fn target_of(s: &[u8], seen: Seen, v: View, target: View, place: u32) -> Verdict
     ensures { result ≡ Vw.target_of (session s.now) seen v target place }
 {
@@ -105,6 +109,7 @@ fn target_of(s: &[u8], seen: Seen, v: View, target: View, place: u32) -> Verdict
 }
 
 // The resolve target of slot k, whose colour view is v: 30 to 33, 48, 41, 34, 35, 42 to 45.
+#[tactic(auto, unfolding(definition::specs::Views::resolve_view))]
 fn resolve_view(
     s: &[u8],
     pass: PassRow,
@@ -125,6 +130,7 @@ fn resolve_view(
 }
 
 // The depth-stencil view of the pass, where it has one.
+#[tactic(auto, unfolding(definition::specs::Check::depth_stencil_step))]
 pub fn depth_stencil_step(s: &[u8], pass: PassRow) -> Progress
     ensures { result ≡ Ck.depth_stencil_step (session s.now) (pass_in s.now pass) }
 {
@@ -144,6 +150,7 @@ pub fn depth_stencil_step(s: &[u8], pass: PassRow) -> Progress
 }
 
 // The resolve target of slot k, whose colour view is v, where it has one.
+#[tactic(auto, unfolding(definition::specs::Check::resolve_step))]
 fn resolve_step(s: &[u8], pass: PassRow, seen: Seen, c: Slot, v: View, k: u32) -> Progress
     requires { k < max_slots }
     ensures { result ≡ Ck.resolve_step (session s.now) seen (taken_in s.now pass k) c v k }
@@ -163,6 +170,7 @@ fn resolve_step(s: &[u8], pass: PassRow, seen: Seen, c: Slot, v: View, k: u32) -
 }
 
 // The colour view v of slot k, then its resolve target.
+#[tactic(auto, unfolding(definition::specs::Check::color_step))]
 fn color_step(s: &[u8], pass: PassRow, seen: Seen, fit: bool, c: Slot, v: View, k: u32) -> Progress
     requires { k < max_slots }
     ensures { result ≡ Ck.color_step (session s.now) seen fit (taken_in s.now pass k) c v k }
@@ -178,6 +186,7 @@ fn color_step(s: &[u8], pass: PassRow, seen: Seen, fit: bool, c: Slot, v: View, 
 }
 
 // Slot k, where it is not empty.
+#[tactic(auto, unfolding(definition::specs::Check::slot_step), using(session::proofs::Rows::without_step))]
 fn slot_step(s: &[u8], pass: PassRow, fit: bool, k: u32, seen: Seen) -> Progress
     requires { k < max_slots }
     ensures { result ≡ Ck.slot_step (session s.now) (pass_in s.now pass) fit k seen }
@@ -193,6 +202,7 @@ fn slot_step(s: &[u8], pass: PassRow, fit: bool, k: u32, seen: Seen) -> Progress
 }
 
 // Slot k after a: nothing more once the pass is refused.
+#[tactic(auto, unfolding(definition::specs::Check::next_slot))]
 fn next_slot(s: &[u8], pass: PassRow, fit: bool, k: u32, a: Progress) -> Progress
     requires { k < max_slots }
     ensures { result ≡ Ck.next_slot (session s.now) (pass_in s.now pass) fit k a }
