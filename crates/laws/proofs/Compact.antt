@@ -28,7 +28,7 @@ module _ {A : Type 0} {k : ℕ} {decode : List ℕ → A} {p : A → Bool} {n : 
     further : retain p (records k decode (i + 1) l₀) ≡ retain p (records k decode i l₀ ++ (s ∷ []))
     further = retain_read k decode p i l₀ s (read ∙ record_same k decode i l₀ l (past_more k decode kept i l₀ l g.behind g.rest))
 
-    keeps : (l' : List ℕ) → b ≡ true → Written k decode kept s l l' → Compacting k decode p n l₀ l' (kept + 1) (i + 1)
+    pub keeps : (l' : List ℕ) → b ≡ true → Written k decode kept s l l' → Compacting k decode p n l₀ l' (kept + 1) (i + 1)
     keeps l' h w = record {
       within = omega arith;
       behind = omega (arith, g.behind);
@@ -46,10 +46,7 @@ module _ {A : Type 0} {k : ℕ} {decode : List ℕ → A} {p : A → Bool} {n : 
       rest = g.rest;
     }
 
-    -- The two ways of a turn, at the values that it leaves.
-    pub compact_keeps : {l' : List ℕ} {kept' : ℕ} → b ≡ true → Written k decode kept s l l' → kept' ≡ kept + 1 → Compacting k decode p n l₀ l' kept' (i + 1)
-    compact_keeps {l' = l'} h w e = transport (λ j. Compacting k decode p n l₀ l' (sym e j) (i + 1)) (keeps l' h w)
-
+    -- A turn that keeps nothing, at the values that it leaves; one that keeps its record is in Kept.
     pub compact_passes : {l' : List ℕ} {kept' : ℕ} → b ≡ false → l' ≡ l → kept' ≡ kept → Compacting k decode p n l₀ l' kept' (i + 1)
     compact_passes h el e = transport (λ j. Compacting k decode p n l₀ (sym el j) (sym e j) (i + 1)) (passes h)
 

@@ -13,6 +13,8 @@ pub mod Plans
 pub mod Views
 pub mod Readable
 pub mod Lent
+pub mod Length
 pub mod Records
 pub mod Compact
+pub mod Kept
 pub mod Extend

@@ -10,6 +10,7 @@ use lib.ListN.{length, take, drop, get_or, length-append}
 use lib.Seq.{take-nil, take-take, take-append-le, drop-append-add, drop-drop, take_at, drop_at, length-take-le, sets, length-sets, sets-eq, get_or-take, get_or-drop}
 use Rattle.definition.specs.MemoryInit.{retain}
 use Rattle.laws.specs.Records.{record_at, records, Written, Appended}
+pub use Rattle.laws.proofs.Length.{records_length}
 
 module _ {A : Type 0} where
   -- What is taken after n is dropped.
@@ -32,11 +33,6 @@ pub number_at : (k i j : ℕ) (l : List ℕ) → j < k → get_or (take k (drop 
 number_at k i j l h = get_or-take k (drop (k * i) l) j 0 h ∙ get_or-drop (k * i) l j 0
 
 module _ {A : Type 0} (k : ℕ) (decode : List ℕ → A) where
-  pub records_length : (n : ℕ) (l : List ℕ) → length (records k decode n l) ≡ n
-  unfolding records
-  records_length zero l = refl
-  records_length (suc n) l = length-append (records k decode n l) (record_at k decode n l ∷ []) ∙ omega (arith, records_length n l)
-
   pub records_suc : (n : ℕ) (l : List ℕ) → records k decode (suc n) l ≡ records k decode n l ++ (record_at k decode n l ∷ [])
   unfolding records
   records_suc n l = refl

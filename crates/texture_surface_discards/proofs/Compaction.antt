@@ -8,7 +8,8 @@ use lib.ListN.{length, set, get_or}
 use Rattle.definition.specs.Sizes.{surface_numbers}
 use Rattle.definition.specs.Surfaces.{hits}
 use Rattle.definition.specs.declared.Surface.{Surface}
-use Rattle.laws.proofs.Compact.{Compacting, compact_keeps, compact_passes, compact_done}
+use Rattle.laws.proofs.Compact.{Compacting, compact_passes, compact_done}
+use Rattle.laws.proofs.Kept.{compact_keeps}
 use Rattle.texture_surface_discards.specs.Slices.{decode_surface, numbers, range_of, Kept}
 use Rattle.texture_surface_discards.specs.declared.TextureInitRange.{TextureInitRange}
 use Rattle.texture_surface_discards.proofs.Slices.{none, surface_in, numbers_at_lem, slice_written}
