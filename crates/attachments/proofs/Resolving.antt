@@ -21,7 +21,7 @@ use Rattle.laws.proofs.Folds.{parts_turn}
 use Rattle.memory_init.specs.declared.Planned.{Planned}
 use Rattle.memory_init.specs.Plans.{plan_in}
 use Rattle.attachments.specs.declared.DepthStencilPart.{DepthStencilPart}
-use Rattle.attachments.specs.Attached.{blank, Present, PartOf, none, one}
+use Rattle.attachments.specs.Attached.{Present, PartOf, none, one}
 use Rattle.attachments.specs.Resolved.{padded, listed, PlansOf}
 
 -- ── an array
