@@ -99,22 +99,15 @@ module _ (way : Way) (s before : List ℕ) (accepted : session_refusal s ≡ 0) 
 
   -- The same where the start is told, and the front is copied whole.
   pub printed_from : {start n number : ℕ} {copied after : List ℕ} → start ≡ pass_start s → n ≡ (session s).pass_count
-      → copied ≡ take (length (take start s)) (take start s) ++ drop (length (take start s)) before
+      → copied ≡ take start s ++ drop start before
       → Rearranged way n (take (length s - start) (drop start s)) (take (length copied - start) (drop start copied)) number after
       → Printed before (rearranged way s) (put_mid start (length copied - start) copied after) (length s)
   printed_from {start} {n} {number} {copied} {after} e counted c r =
-      subst (λ (k : ℕ). copied ≡ take (length (take k s)) (take k s) ++ drop (length (take k s)) before → Rearranged way n (drop k s) (drop k copied) number after
+      subst (λ (k : ℕ). copied ≡ take k s ++ drop k before → Rearranged way n (drop k s) (drop k copied) number after
       → Printed before (rearranged way s) (put_mid k (length copied - k) copied after) (length s)) (sym e)
-      (λ q. printed_session (q ∙ copied_front) counted) c
+      (λ q. printed_session q counted) c
       (subst (λ b. Rearranged way n (drop start s) b number after) (to_the_end start copied)
       (subst (λ b. Rearranged way n b (take (length copied - start) (drop start copied)) number after) (to_the_end start s) r))
-    where
-      copied_front : take (length (take (pass_start s) s)) (take (pass_start s) s) ++ drop (length (take (pass_start s) s)) before
-          ≡ take (pass_start s) s ++ drop (pass_start s) before
-      copied_front =
-          let l = front_length s accepted in
-          ap (λ xs. xs ++ drop (length (take (pass_start s) s)) before) (take_all (length (take (pass_start s) s)) (take (pass_start s) s) (omega arith))
-          ∙ ap (λ (k : ℕ). take (pass_start s) s ++ drop k before) l
 
 -- ── which files are written so
 

@@ -201,6 +201,8 @@ fn main(rt: HostRuntime) -> io::Result<()> {
     let n = read_head(&mut rt.stdin(), &mut space)?;
     let tally = replay(&space[..n]);
     let (agree, sessions) = (tally.agree, tally.sessions);
-    println!(rt; "sessions with the Rust's answers, made by make-answers of the harness from seed 9020")?;
+    println!(rt;
+        "sessions with the Rust's answers, made by make-answers of the harness from seed 9020"
+    )?;
     println!(rt; "{agree} of {sessions} agree")
 }
