@@ -1,7 +1,8 @@
 -- Compaction in place, with the test that the discard stays by all plans.
 use Rattle.std.proofs.Common.{ap, drop}
 use Rattle.definition.specs.Sizes.{count_bytes}
-use Rattle.laws.proofs.Compact.{compact_start, compact_keeps, compact_passes}
+use Rattle.laws.proofs.Compact.{compact_start, compact_passes}
+use Rattle.laws.proofs.Kept.{compact_keeps}
 use Rattle.memory_init.specs.Plans.{plans_in}
 use Rattle.memory_init.proofs.Entries.{written_as}
 use Rattle.discard_list.proofs.Discards.{compact_stays}
