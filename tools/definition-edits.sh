@@ -14,15 +14,17 @@ trap 'rm -rf "$work"' EXIT
 mkdir -p "$logs" || exit 2
 if [ $# -eq 0 ]; then set -- "$edits"/*/*.edit; else set -- "${@/#/$edits/}" && set -- "${@/%/.edit}"; fi
 
-# The crates as every edit finds them: without must-fail edits, without the files of computed checks, and without the code, whose proofs an edit may break first.
+# The crates as every edit finds them, proved: without must-fail edits, without the files of computed checks, and without the code, whose proofs an edit may break first.
 mkdir "$work/base" "$work/base/crates" || exit 2
 cp -r crates/definition crates/laws crates/noninterference "$work/base/crates/" || exit 2
+rm -rf "$work"/base/crates/*/out
 grep -E '^(definition|laws|noninterference):' crates.txt > "$work/base/crates.txt"
 rm -rf "$work"/base/crates/*/must-fail "$work/base/$edits"
 rm -f "$work"/base/crates/definition/specs/{Corners,Sessions,Files}.antt "$work/base/crates/noninterference/proofs/Examples.antt"
 rm -rf "$work"/base/crates/definition/{src/verdicts.rt,proofs}
 sed -i -E '/^pub mod (Corners|Sessions|Files|Examples|verdicts;)$/d' \
     "$work"/base/crates/definition/{specs/Lib.antt,src/lib.rt} "$work/base/crates/noninterference/proofs/Lib.antt"
+(cd "$work/base/crates/noninterference" && rt check) > "$logs/base" 2>&1 || { echo 'the crates are not proved before any edit' >&2 && exit 2; }
 
 # The fact that an edit names.
 fact_of() { # EDIT
@@ -50,9 +52,13 @@ apply() { # EDIT FOLDER
     [ "$pairs" -gt 0 ]
 }
 
-# Tries one edit: prints a line, and leaves the word passed or failed.
+# What a check says where a text cannot be read, or names what is not there.
+unread='error: .*(not in scope|can be named|has no field|has no `|is no name|operand is missing|expected the end|cannot continue)'
+
+# Tries one edit: prints a line, and leaves the word passed or failed. The check is that of noninterference, which checks definition and laws
+# before; its lines on one crate follow those on the crate below.
 try() { # EDIT
-    local name copy log fact first at said
+    local name copy log fact first at place said
     name=$(basename "$1" .edit)
     copy=$work/$name log=$logs/$name
     cp -r "$work/base" "$copy"
@@ -60,17 +66,18 @@ try() { # EDIT
     said='NOT REFUSED: the theorem still holds'
     if [ -z "$fact" ] || ! apply "$1" "$copy/crates/definition"; then
         said='BAD EDIT: it names no fact, or its text does not occur once'
-    elif ! (cd "$copy" && rt check noninterference) > "$log" 2>&1; then
-        first=$(grep -m 1 -E '/crates/[^ ]*: error: ' "$log" | sed -E "s|^$copy/||")
-        at=${first%%: error: *}
-        if ! grep -q '^rt: definition proved' "$log"; then
+    elif ! (cd "$copy/crates/noninterference" && rt check) > "$log" 2>&1; then
+        first=$(grep -m 1 -E '^(\./)?[^ ]+:[0-9]+:[0-9]+: error: ' "$log")
+        at=${first%%: error: *} place=noninterference/${at#./}
+        if grep -q '^rt: the library laws did not build' "$log"; then place=laws/${at#./}; fi
+        if ! grep -q '^crate laws: ' "$log"; then
             said='BAD EDIT: it is no definition'
-        elif grep -q -E 'error: .*(not in scope|can be named from here|has no field)' "$log"; then
+        elif grep -q -E "$unread" "$log"; then
             said='BAD EDIT: a name is missing'
-        elif [[ $first != "$at: error: \`$fact\`"* ]]; then
-            said="REFUSED ELSEWHERE: not at $fact, but first at $at"
+        elif [[ $first != "$at: error: \`$fact\`: "* ]]; then
+            said="REFUSED ELSEWHERE: not at $fact, but first at $place"
         else
-            said="refused at $fact ($at)"
+            said="refused at $fact ($place)"
         fi
     fi
     echo "$name: $said"
