@@ -1,0 +1,27 @@
+-- What is said of the pass is its row; at a buffer's end the discards and the actions are submitted.
+use mathlib.Core.Path.{sym, ◌∙◌}
+use borrow.Author.Rules.{rules}
+use Rattle.laws.proofs.Readable.{tested}
+use Rattle.whole_session.proofs.Rows.{row_told, next_on, next_ended}
+use Rattle.whole_session.proofs.next_row.Goals as goal
+
+pub summarize-said-requires : goal.summarize-said-requires
+summarize-said-requires c =
+    let read = tested _ c.requires.s_value.0 in
+    record { textures = read.textures; views = read.views; held = c.requires.reached.held; actions = c.requires.reached.few }
+
+pub returns-then-not-ends_buffer : goal.returns-then-not-ends_buffer
+returns-then-not-ends_buffer c =
+    let read = c.pass_row-pass.ensures in
+    record {
+      row = row_told _ _ _ _ _ c.requires.reached _ _ (simp read at c.summarize-said.ensures) _ c.count.ensures;
+      next = next_on _ _ _ _ _ c.requires.reached _ _ (simp read at c.summarize-said.ensures) (simp read at (sym c.ends_buffer.ensures ∙ c.if-not-ends_buffer.true));
+    }
+
+pub returns : goal.returns
+returns c =
+    let read = c.pass_row-pass.ensures in
+    record {
+      row = row_told _ _ _ _ _ c.requires.reached _ _ (simp read at c.summarize-said.ensures) _ c.count.ensures;
+      next = next_ended _ _ _ _ _ c.requires.reached _ _ (simp read at c.summarize-said.ensures) _ (simp read at (sym c.ends_buffer.ensures ∙ c.if-not-ends_buffer.false)) (search rules) c.set_count.ensures;
+    }
