@@ -1,14 +1,8 @@
 -- The invariant: the first i attachments are the words so far. There are as many records as a reply has at most.
-use mathlib.Core.Path.{◌≡◌, refl, sym, ap, ◌∙◌}
-use mathlib.Core.List.{List}
-use Prim.Native.Nat.{ℕ, ◌-◌, ◌≤◌, ◌<◌}
-use native.Mathlib.Omega.{arith}
-use native.Mathlib.Numerals.{add-one}
-use borrow.Author.Rules.{rules}
-use lib.ListN.{length}
+use mathlib.Core.Path.{◌≡◌}
+use Prim.Native.Nat.{◌-◌, ◌≤◌}
 use Rattle.definition.specs.Sizes.{max_attachments}
 use Rattle.answer_words.specs.Words.{next_words, attachments_words}
-use Rattle.answer_words.proofs.Words.{words_append, attachments_more, attachments_all}
 use Rattle.answer_words.proofs.attachments.Given as goal
 
 abbrev pub invariant-loop-i : goal.invariant-loop-i

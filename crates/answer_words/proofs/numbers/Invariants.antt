@@ -1,12 +1,8 @@
 -- The invariant: the first i numbers are the words so far.
-use mathlib.Core.Path.{◌≡◌, refl, sym}
+use mathlib.Core.Path.{◌≡◌}
 use Prim.Native.Nat.{◌-◌, ◌≤◌}
-use native.Mathlib.Omega.{arith}
-use native.Mathlib.Numerals.{add-one}
-use borrow.Author.Rules.{rules}
 use Rattle.whole_session.specs.Numbers.{numbers_at}
 use Rattle.answer_words.specs.Words.{next_words}
-use Rattle.answer_words.proofs.Words.{words_append}
 use Rattle.answer_words.proofs.numbers.Given as goal
 
 abbrev pub invariant-loop-i : goal.invariant-loop-i

@@ -1,7 +1,0 @@
--- Four numbers, then the attachments.
-use Rattle.answer_words.specs.Words.{next_words}
-use Rattle.answer_words.proofs.rest.Goals as goal
-
-pub returns : goal.returns
-unfolding next_words
-returns c = cc
