@@ -70,6 +70,7 @@ pub fn numbers(list: &[u8], p: Place, b: &[u8], from: u32, n: u32) -> Place
 }
 
 // The next two words are the pattern of an f64, the low half first.
+#[tactic(auto, unfolding(crate::specs::Words::next_words))]
 fn double(list: &[u8], p: Place, x: f64) -> Place
     ensures { result ≡ next_words list.now p (double_words x) }
 {
@@ -80,6 +81,7 @@ fn double(list: &[u8], p: Place, x: f64) -> Place
 }
 
 // The next eight words are a colour.
+#[tactic(auto, unfolding(crate::specs::Words::next_words))]
 fn color(list: &[u8], p: Place, c: Color) -> Place
     ensures { result ≡ next_words list.now p (color_words c) }
 {
@@ -90,6 +92,7 @@ fn color(list: &[u8], p: Place, c: Color) -> Place
 }
 
 // The next fourteen words are an attachment.
+#[tactic(auto, unfolding(crate::specs::Words::next_words))]
 fn attachment(list: &[u8], p: Place, a: Attachment) -> Place
     ensures { result ≡ next_words list.now p (attachment_words a) }
 {
@@ -121,6 +124,7 @@ fn attachments(list: &[u8], p: Place, count: u32, records: [Attachment; MAX_ATTA
 }
 
 // The next words are the line of pass k: by its reply and the length of the discard list.
+#[tactic(auto, unfolding(crate::specs::Words::next_words))]
 fn line(list: &[u8], p: Place, k: u32, r: Reply, discards: u32) -> Place
     ensures { result ≡ next_words list.now p (line_words k r discards) }
 {
@@ -136,6 +140,7 @@ fn line(list: &[u8], p: Place, k: u32, r: Reply, discards: u32) -> Place
 }
 
 // The next words are what follows the line: flags, divergent aspect, attachments.
+#[tactic(auto, unfolding(crate::specs::Words::next_words))]
 fn rest(list: &[u8], p: Place, r: Reply) -> Place
     ensures { result ≡ next_words list.now p (rest_words r) }
 {
