@@ -3,3 +3,4 @@ pub mod Left
 pub mod Read
 pub mod Theorem
 pub mod Example
+pub mod Hidden

@@ -14,18 +14,15 @@ use Rattle.laws.specs.Records.{record_at, records}
 use Rattle.lists.specs.Lists.{surface_of, action_of_bytes}
 use Rattle.lists.specs.Lent.{RestsStay}
 use Rattle.buffer_validation.specs.Buffers.{Buffers, buffers, held_in, too_short}
-use Rattle.noninterference.specs.Memory.{Drawing, Contents}
 use Rattle.render_pass.specs.declared.Reply.{Reply}
 use Rattle.desk.specs.Entry.{number_in, Opened}
 use Rattle.desk.specs.Reply.{answered}
 use Rattle.desk.specs.Promise.{LengthsStay, PassPromise, SubmitPromise}
 use Rattle.desk.specs.EntryPoints.Run.{FreshBuffers, of_pass, of_submit, Turn, Run}
-use Rattle.desk.specs.EntryPoints.Theorem.{MaskedIn, HiddenIn}
 use Rattle.desk.proofs.Calls.{entry_called}
-use Rattle.desk.proofs.EntryPoints.Theorem.{demand_three_of_calls}
 
 -- One texture, one view, and two passes that have it as their colour.
-abbrev example : List ℕ
+abbrev pub example : List ℕ
 example = file 8 0 1 (texture 3 2 4 1 1 1 16 ∷ []) (view 0 2 1 1 16 0 ∷ []) (colors (slot 0 1 1 ∷ []) ∷ colors (slot 0 0 0 ∷ []) ∷ [])
 
 -- Its one surface is 0 0 0 0. Pass 1 needs it, and registers again what it finds discarded.
@@ -37,7 +34,7 @@ abbrev nines : ℕ → List ℕ
 nines n = replicate n 9
 
 -- What a pass check replies.
-abbrev reply_to : ℕ → Buffers → Reply
+abbrev pub reply_to : ℕ → Buffers → Reply
 reply_to i b = answered (called (session example) (pass i) (held_in b)).answer
 
 -- What it promises where it is accepted and the bytes after it are as they are computed.
@@ -58,23 +55,23 @@ accepted i b b' o h ok left rest lengths status =
 -- The buffers before and after each call. Behind what the calls write, x, y, z and w are anything.
 module _ (x y z w : List ℕ) where
   -- Fresh.
-  abbrev first : Buffers
+  abbrev pub first : Buffers
   first = buffers (words (0 ∷ nines 4) ++ x) (words (0 ∷ nines 14) ++ y) (words (0 ∷ nines 4) ++ z) (0 ∷ w)
 
   -- Pass 0 lists a discard.
-  abbrev second : Buffers
+  abbrev pub second : Buffers
   second = buffers (words (1 ∷ 0 ∷ 0 ∷ 0 ∷ 0 ∷ []) ++ x) (words (0 ∷ nines 14) ++ y) (words (0 ∷ nines 4) ++ z) (0 ∷ w)
 
   -- Pass 1 loads the surface: its discard is returned as a clear, and two actions are registered.
-  abbrev third : Buffers
+  abbrev pub third : Buffers
   third = buffers (words (0 ∷ 0 ∷ 0 ∷ 0 ∷ 0 ∷ []) ++ x) (words (2 ∷ registered) ++ y) (words (1 ∷ 0 ∷ 0 ∷ 0 ∷ 0 ∷ []) ++ z) (0 ∷ w)
 
   -- The submission empties discards and actions, and the surface is cleared and filled.
-  abbrev last : Buffers
+  abbrev pub last : Buffers
   last = buffers (words (0 ∷ 0 ∷ 0 ∷ 0 ∷ 0 ∷ []) ++ x) (words (0 ∷ registered) ++ y) (words (1 ∷ 0 ∷ 0 ∷ 0 ∷ 0 ∷ []) ++ z) (3 ∷ w)
 
   -- What is told, and the buffers after each call.
-  abbrev turns : List Turn
+  abbrev pub turns : List Turn
   turns =
       record { told = of_pass 0 (reply_to 0 first); left = second }
       ∷ record { told = of_pass 1 (reply_to 1 second); left = third }
@@ -125,16 +122,6 @@ module _ (x y z w : List ℕ) where
     pub told : ((reply_to 0 first).number ∷ (reply_to 0 first).clears ∷ (reply_to 1 second).number ∷ (reply_to 1 second).clears ∷ []) ≡ (0 ∷ 0 ∷ 0 ∷ 1 ∷ [])
     unfolding computing surface_of action_of_bytes record_at records
     told = refl
-
-    -- Its view has one layer, so that no mask is asked for.
-    masked : MaskedIn example turns
-    unfolding computing surface_of action_of_bytes record_at records
-    masked = refl
-
-    -- So the theorem speaks of it.
-    pub hidden : (Val : Type 0) (D : Drawing Val) (c c' : Contents Val) → HiddenIn D c c' example first turns
-    unfolding computing
-    hidden = demand_three_of_calls example refl refl first fresh turns run masked
 
 -- With as many nines behind each as make it longer than it must be: a run, and nothing is left open.
 abbrev spare : List ℕ
