@@ -1,4 +1,4 @@
--- What a program has to write once standard input is read. What is read no contract can say: it is left free, and named here.
+-- What a program has to write once its input is read. What is read is left free, and named here: of standard input no contract can say it.
 use Rattle.std.specs.Prelude.{◌≡◌, Bool, true, false, List, ℕ, ◌≤◌, length, take}
 use Rattle.report.specs.Held.{Enough, Holds}
 use Rattle.report.specs.Printed.{Printed}

@@ -1,4 +1,4 @@
-// The discard list as a lent slice of records (Vec<TextureSurfaceDiscard>), for callers in C.
+// The discard list as a lent slice of records (Vec<TextureSurfaceDiscard>); `texture_surface_discards_c` has it for callers in C.
 // Both functions have the flat form's contracts, over the records' numbers, and test what they are given: neither has a `requires`.
 #![tactic(auto)]
 

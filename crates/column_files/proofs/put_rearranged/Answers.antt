@@ -1,8 +1,12 @@
 -- All before the passes is copied, the passes are rearranged behind it.
-use Rattle.std.proofs.Common.{◌++◌, ap, arith, drop, length-take, length-append}
+use Rattle.std.proofs.Common.{◌≡◌, ℕ, List, ◌≤◌, ◌++◌, ap, arith, length, take, drop, length-take, length-append, length-drop}
 use Rattle.column_files.proofs.Theorem.{start_inside}
 use Rattle.column_files.proofs.Written.{session_fits, printed_from}
 use Rattle.column_files.proofs.put_rearranged.Goals as goal
+
+-- What is copied to the front leaves the length.
+still : (new out : List ℕ) (n : ℕ) → n ≤ length out → length new ≡ length (take n out) → length (new ++ drop n out) ≡ length out
+still new out n h e = omega (arith, length-append new (drop n out), e, length-take n out, length-drop n out)
 
 pub slice_bounds-copy_from_slice-end : goal.slice_bounds-copy_from_slice-end
 slice_bounds-copy_from_slice-end c =
@@ -31,28 +35,14 @@ slice_bounds-rearrange-start c = omega (arith, start_inside c.args.session.now c
 pub slice_bounds-rearrange-count-2 : goal.slice_bounds-rearrange-count-2
 slice_bounds-rearrange-count-2 c =
     let s = c.args.session.now in
-    let start = c.pass_start-start.result in
-    omega (
-      arith,
-      length-append c.copy_from_slice.new.self (drop start c.args.out.now),
-      c.copy_from_slice.ensures.len,
-      length-take start c.args.out.now,
-      start_inside s c.requires.0,
-      session_fits s c.requires.0,
-    )
+    let kept = still _ c.args.out.now c.pass_start-start.result (omega (arith, start_inside s c.requires.0, session_fits s c.requires.0)) c.copy_from_slice.ensures.len in
+    omega (arith, kept, start_inside s c.requires.0, session_fits s c.requires.0)
 
 pub slice_bounds-rearrange-start-2 : goal.slice_bounds-rearrange-start-2
 slice_bounds-rearrange-start-2 c =
     let s = c.args.session.now in
-    let start = c.pass_start-start.result in
-    omega (
-      arith,
-      length-append c.copy_from_slice.new.self (drop start c.args.out.now),
-      c.copy_from_slice.ensures.len,
-      length-take start c.args.out.now,
-      start_inside s c.requires.0,
-      session_fits s c.requires.0,
-    )
+    let kept = still _ c.args.out.now c.pass_start-start.result (omega (arith, start_inside s c.requires.0, session_fits s c.requires.0)) c.copy_from_slice.ensures.len in
+    omega (arith, kept, start_inside s c.requires.0, session_fits s c.requires.0)
 
 pub returns : goal.returns
 returns c =
