@@ -36,48 +36,6 @@ fn slice_verdict(s: &[u8], c: Slot, v: View, place: u32) -> Verdict
     either(is_d3(v), then(given, inside), absent)
 }
 
-// The colour view v of slot k, of a pass whose colours fit into a sample or not: 30 to 40, 51, 41.
-#[tactic(auto, unfolding(definition::specs::Views::color_view))]
-fn color_view(pass: &PassRow, seen: Seen, fit: bool, c: Slot, v: View, k: u32) -> Verdict
-    ensures { result ≡ Vw.color_view (session_in pass.now) seen fit (taken_in pass.now k) c v k }
-{
-    let layers = check_multiview(pass.session, seen, v, k);
-    let extent = add_view(pass.session, seen, v, k);
-    let format = unless(is_color(v.format), Refusal::InvalidFormat, k);
-    let slice = slice_verdict(pass.session, c, v, k);
-    let bytes = unless(fit, Refusal::TooManyColorBytes, k);
-    let free = check_attachment_overlap(pass, k, v, c.slice, k);
-    then(
-        layers,
-        then(extent, then(format, then(slice, then(bytes, free)))),
-    )
-}
-
-// A resolve target by itself: 30 to 33, 48, 41 and 34. Its colour view v is taken, and so is what the slots before k take.
-#[tactic(auto, unfolding(definition::specs::Views::target_view))]
-fn target_view(
-    pass: &PassRow,
-    seen: Seen,
-    k: u32,
-    v: View,
-    slice: u32,
-    target: View,
-    place: u32,
-) -> Verdict
-    ensures { let taken = Vw.takes v slice ++ taken_in pass.now k in
-        result ≡ Vw.target_view (session_in pass.now) seen taken target place }
-{
-    let layers = check_multiview(pass.session, seen, target, place);
-    let flat = unless(
-        is_d2(target) | is_d2_array(target),
-        Refusal::InvalidResolveDimension,
-        place,
-    );
-    let free = check_resolve_overlap(pass, k, v, slice, target, place);
-    let fit = unless(renderable(target), Refusal::NotRenderable, place);
-    then(layers, then(flat, then(free, fit)))
-}
-
 // A resolve target against its colour view v: 35 and 42 to 45.
 #[tactic(auto, unfolding(definition::specs::Views::target_of))]
 fn target_of(s: &[u8], seen: Seen, v: View, target: View, place: u32) -> Verdict
@@ -96,30 +54,129 @@ fn target_of(s: &[u8], seen: Seen, v: View, target: View, place: u32) -> Verdict
         Refusal::InvalidResolveSampleCounts,
         place,
     );
-    let format = unless(v.format == target.format, Refusal::MismatchedResolveFormat, place);
-    let resolvable = unless(target.resolvable == 1, Refusal::UnsupportedResolveFormat, place);
-    let kept = unless(!transient(target), Refusal::InvalidTransientResolveTarget, place);
+    let format = unless(
+        v.format == target.format,
+        Refusal::MismatchedResolveFormat,
+        place,
+    );
+    let resolvable = unless(
+        target.resolvable == 1,
+        Refusal::UnsupportedResolveFormat,
+        place,
+    );
+    let kept = unless(
+        !transient(target),
+        Refusal::InvalidTransientResolveTarget,
+        place,
+    );
     then(extent, then(samples, then(format, then(resolvable, kept))))
 }
 
-// The resolve target of slot k, whose colour view is v: 30 to 33, 48, 41, 34, 35, 42 to 45.
-#[tactic(auto, unfolding(definition::specs::Views::resolve_view))]
-fn resolve_view(
-    pass: &PassRow,
-    seen: Seen,
+// A colour slot of a pass, and the view that it names.
+#[derive(Clone, Copy)]
+struct ColorSlot<'a> {
+    pass: &'a PassRow<'a>,
     k: u32,
-    v: View,
-    slice: u32,
-    target: View,
-    place: u32,
-) -> Verdict
-    ensures { let taken = Vw.takes v slice ++ taken_in pass.now k in
-        result ≡ Vw.resolve_view (session_in pass.now) seen taken v target place }
-{
-    then(
-        target_view(pass, seen, k, v, slice, target, place),
-        target_of(pass.session, seen, v, target, place),
-    )
+    slot: Slot,
+    view: View,
+    ghost inside: { k < max_slots },
+}
+
+impl ColorSlot<'_> {
+    // The colour view, of a pass whose colours fit into a sample or not: 30 to 40, 51, 41.
+    #[tactic(auto, unfolding(definition::specs::Views::color_view))]
+    fn color_view(&self, seen: Seen, fit: bool) -> Verdict
+        ensures { let a = self.now in
+            result ≡ Vw.color_view (session_in a.pass.now) seen fit (taken_in a.pass.now a.k) a.slot a.view a.k }
+    {
+        let s = self.pass.session;
+        let v = self.view;
+        let place = self.k;
+        let layers = check_multiview(s, seen, v, place);
+        let extent = add_view(s, seen, v, place);
+        let format = unless(is_color(v.format), Refusal::InvalidFormat, place);
+        let slice = slice_verdict(s, self.slot, v, place);
+        let bytes = unless(fit, Refusal::TooManyColorBytes, place);
+        let free = check_attachment_overlap(self.pass, place, v, self.slot.slice, place);
+        then(
+            layers,
+            then(extent, then(format, then(slice, then(bytes, free)))),
+        )
+    }
+
+    // A resolve target by itself: 30 to 33, 48, 41 and 34. The colour view is taken, and so is what the slots before take.
+    #[tactic(auto, unfolding(definition::specs::Views::target_view))]
+    fn target_view(&self, seen: Seen, target: View, place: u32) -> Verdict
+        ensures { let a = self.now in
+            let taken = Vw.takes a.view a.slot.slice ++ taken_in a.pass.now a.k in
+            result ≡ Vw.target_view (session_in a.pass.now) seen taken target place }
+    {
+        let layers = check_multiview(self.pass.session, seen, target, place);
+        let flat = unless(
+            is_d2(target) | is_d2_array(target),
+            Refusal::InvalidResolveDimension,
+            place,
+        );
+        let free = check_resolve_overlap(
+            self.pass,
+            self.k,
+            self.view,
+            self.slot.slice,
+            target,
+            place,
+        );
+        let fit = unless(renderable(target), Refusal::NotRenderable, place);
+        then(layers, then(flat, then(free, fit)))
+    }
+
+    // The resolve target: 30 to 33, 48, 41, 34, 35, 42 to 45.
+    #[tactic(auto, unfolding(definition::specs::Views::resolve_view))]
+    fn resolve_view(&self, seen: Seen, target: View, place: u32) -> Verdict
+        ensures { let a = self.now in
+            let taken = Vw.takes a.view a.slot.slice ++ taken_in a.pass.now a.k in
+            result ≡ Vw.resolve_view (session_in a.pass.now) seen taken a.view target place }
+    {
+        then(
+            self.target_view(seen, target, place),
+            target_of(self.pass.session, seen, self.view, target, place),
+        )
+    }
+
+    // The resolve target, where the slot has one.
+    #[tactic(auto, unfolding(definition::specs::Check::resolve_step))]
+    fn resolve_step(&self, seen: Seen) -> Progress
+        ensures { let a = self.now in
+            result ≡ Ck.resolve_step (session_in a.pass.now) seen (taken_in a.pass.now a.k) a.slot a.view a.k }
+    {
+        if is_none(self.slot.resolve) {
+            return Progress {
+                verdict: accepted(),
+                seen,
+            };
+        }
+        let place = MAX_SLOTS + self.k;
+        let target = view(self.pass.session, self.slot.resolve);
+        Progress {
+            verdict: self.resolve_view(seen, target, place),
+            seen,
+        }
+    }
+
+    // The colour view, then its resolve target.
+    #[tactic(auto, unfolding(definition::specs::Check::color_step))]
+    fn color_step(&self, seen: Seen, fit: bool) -> Progress
+        ensures { let a = self.now in
+            result ≡ Ck.color_step (session_in a.pass.now) seen fit (taken_in a.pass.now a.k) a.slot a.view a.k }
+    {
+        let color = self.color_view(seen, fit);
+        if is_accepted(color) {
+            return self.resolve_step(see_view(self.pass.session, seen, self.view, self.k));
+        }
+        Progress {
+            verdict: color,
+            seen,
+        }
+    }
 }
 
 // The depth-stencil view of the pass, where it has one.
@@ -132,7 +189,7 @@ pub fn depth_stencil_step(pass: &PassRow) -> Progress
     if is_none(k) {
         return Progress {
             verdict: accepted(),
-            seen: seen,
+            seen,
         };
     }
     let v = view(pass.session, k);
@@ -142,56 +199,26 @@ pub fn depth_stencil_step(pass: &PassRow) -> Progress
     }
 }
 
-// The resolve target of slot k, whose colour view is v, where it has one.
-#[tactic(auto, unfolding(definition::specs::Check::resolve_step))]
-fn resolve_step(pass: &PassRow, seen: Seen, c: Slot, v: View, k: u32) -> Progress
-    requires { k < max_slots }
-    ensures { result ≡ Ck.resolve_step (session_in pass.now) seen (taken_in pass.now k) c v k }
-{
-    if is_none(c.resolve) {
-        return Progress {
-            verdict: accepted(),
-            seen: seen,
-        };
-    }
-    let place = MAX_SLOTS + k;
-    let target = view(pass.session, c.resolve);
-    Progress {
-        verdict: resolve_view(pass, seen, k, v, c.slice, target, place),
-        seen: seen,
-    }
-}
-
-// The colour view v of slot k, then its resolve target.
-#[tactic(auto, unfolding(definition::specs::Check::color_step))]
-fn color_step(pass: &PassRow, seen: Seen, fit: bool, c: Slot, v: View, k: u32) -> Progress
-    requires { k < max_slots }
-    ensures { result ≡ Ck.color_step (session_in pass.now) seen fit (taken_in pass.now k) c v k }
-{
-    let color = color_view(pass, seen, fit, c, v, k);
-    if is_accepted(color) {
-        return resolve_step(pass, see_view(pass.session, seen, v, k), c, v, k);
-    }
-    Progress {
-        verdict: color,
-        seen: seen,
-    }
-}
-
 // Slot k, where it is not empty.
 #[tactic(auto, unfolding(definition::specs::Check::slot_step), using(session::proofs::Rows::without_step))]
 fn slot_step(pass: &PassRow, fit: bool, k: u32, seen: Seen) -> Progress
     requires { k < max_slots }
     ensures { result ≡ Ck.slot_step (session_in pass.now) (pass_in pass.now) fit k seen }
 {
-    let c = pass.slot_without_clear(k);
-    if is_none(c.view) {
+    let slot = pass.slot_without_clear(k);
+    if is_none(slot.view) {
         return Progress {
             verdict: accepted(),
-            seen: seen,
+            seen,
         };
     }
-    color_step(pass, seen, fit, c, view(pass.session, c.view), k)
+    let color = ColorSlot {
+        pass,
+        k,
+        slot,
+        view: view(pass.session, slot.view),
+    };
+    color.color_step(seen, fit)
 }
 
 // Slot k after a: nothing more once the pass is refused.
@@ -200,19 +227,10 @@ fn next_slot(pass: &PassRow, fit: bool, k: u32, a: Progress) -> Progress
     requires { k < max_slots }
     ensures { result ≡ Ck.next_slot (session_in pass.now) (pass_in pass.now) fit k a }
 {
-    let judged = a.verdict;
-    if is_accepted(judged) {
-        let seen = a.seen;
-        return slot_step(pass, fit, k, seen);
+    if is_accepted(a.verdict) {
+        return slot_step(pass, fit, k, a.seen);
     }
     a
-}
-
-// The smaller of n and the most colour slots.
-fn slots_of(n: u32) -> u32
-    ensures { (result ≡ min n max_slots) × (result ≤ max_slots) }
-{
-    if n < MAX_SLOTS { n } else { MAX_SLOTS }
 }
 
 // The bytes of a sample with slot k more: at most 19.
@@ -231,7 +249,7 @@ fn with_slot(pass: &PassRow, k: u32, bytes: u32) -> u64
 fn sample_bytes(pass: &PassRow, n: u32) -> u32
     ensures { result ≡ Ck.sample_bytes (session_in pass.now) (pass_in pass.now) (min n max_slots) }
 {
-    let slots = slots_of(n);
+    let slots = n.min(MAX_SLOTS);
     let mut bytes = 0u32;
     for k in 0..slots {
         bytes = with_slot(pass, k, bytes) as u32;
@@ -251,7 +269,7 @@ pub fn bytes_fit(pass: &PassRow, n: u32) -> bool
 pub fn slot_steps(pass: &PassRow, fit: bool, a: Progress, n: u32) -> Progress
     ensures { result ≡ Ck.slot_steps (session_in pass.now) (pass_in pass.now) fit a (min n max_slots) }
 {
-    let slots = slots_of(n);
+    let slots = n.min(MAX_SLOTS);
     let mut b = a;
     for k in 0..slots {
         b = next_slot(pass, fit, k, b);
