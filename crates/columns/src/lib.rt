@@ -27,64 +27,43 @@ pub struct ColumnPlace {
     pub bytes: usize,
 }
 
+impl Way {
+    // The rows that are read and the bytes of each: a row a pass, or a row a column.
+    fn shape(self, n: usize) -> (usize, usize)
+        ensures { result ≡ (C.rows_of self n, C.row_bytes_of self n) }
+    {
+        match self {
+            Way::Columns => (n, PASS_BYTES),
+            Way::Rows => (PASS_BYTES, n),
+        }
+    }
+}
+
 // A byte; past the end 0.
 fn byte_at(s: &[u8], at: usize) -> u8
     ensures { result ≡ get_or s.now at 0 }
 {
-    if at < s.len() {
-        return s[at];
-    }
-    0
+    s.get(at).copied().unwrap_or(0)
 }
 
-// Byte j of each of n rows of c bytes, one behind the other from a place on.
-fn put_column(src: &[u8], c: usize, j: usize, n: usize, out: &mut [u8], at: usize)
-    requires n_in_bounds { at + n ≤ length out.old }
-    requires c_le_pass_bytes { (c ≤ pass_bytes) × (j ≤ pass_bytes) × (n ≤ pass_bytes) }
-    ensures out_after { take (at + n) out.new ≡ take at out.old ++ C.column c src.now j n }
-    ensures out_unchanged { drop (at + n) out.new ≡ drop (at + n) out.old }
+// Byte j of each of as many rows of c bytes as the column has bytes.
+fn put_column(src: &[u8], c: usize, j: usize, column: &mut [u8])
+    requires { (c ≤ pass_bytes) × (j ≤ pass_bytes) × (length column.old ≤ pass_bytes) }
+    ensures { column.new ≡ C.column c src.now j (length column.old) }
 {
-    let mut i: usize = 0;
-    let mut from = j;
-    while i < n {
-        out[at + i] = byte_at(src, from);
-        from += c;
-        i += 1;
+    for i in 0..column.len() {
+        column[i] = byte_at(src, c * i + j);
     }
 }
 
 // r rows of c bytes, column by column, at the front of the target.
 fn transpose(src: &[u8], r: usize, c: usize, out: &mut [u8])
-    requires c_in_bounds { r * c ≤ length out.old }
-    requires r_le_pass_bytes { (r ≤ pass_bytes) × (c ≤ pass_bytes) }
+    requires room { r * c ≤ length out.old }
+    requires few { (r ≤ pass_bytes) × (c ≤ pass_bytes) }
     ensures { out.new ≡ C.transposed r c src.now ++ drop (r * c) out.old }
 {
-    let mut j: usize = 0;
-    let mut at: usize = 0;
-    while j < c {
-        put_column(src, c, j, r, out, at);
-        at += r;
-        j += 1;
-    }
-}
-
-// How many rows are read: a row a pass, or a row a column.
-fn rows_of(way: Way, n: usize) -> usize
-    ensures { result ≡ C.rows_of way n }
-{
-    match way {
-        Way::Columns => n,
-        Way::Rows => PASS_BYTES,
-    }
-}
-
-// The bytes of each.
-fn row_bytes_of(way: Way, n: usize) -> usize
-    ensures { result ≡ C.row_bytes_of way n }
-{
-    match way {
-        Way::Columns => PASS_BYTES,
-        Way::Rows => n,
+    for j in 0..c {
+        put_column(src, c, j, &mut out[r * j..r * j + r]);
     }
 }
 
@@ -118,8 +97,8 @@ pub fn rearrange(way: Way, passes: u32, part: &[u8], target: &mut [u8]) -> u32
     if number != 0 {
         return number;
     }
-    let n = passes as usize;
-    transpose(part, rows_of(way, n), row_bytes_of(way, n), target);
+    let (rows, row_bytes) = way.shape(passes as usize);
+    transpose(part, rows, row_bytes, target);
     0
 }
 
@@ -149,8 +128,8 @@ fn has_column(passes: u32, bytes: usize, j: u32) -> bool
 // Where column j of so many passes stands, or 2. Refused or not, it is a part of the columns.
 #[tactic(auto, using(crate::proofs::Refusals::placed, crate::proofs::Refusals::not_placed, crate::proofs::Refusals::column_inside))]
 pub fn deskcheck_column(passes: u32, columns: &[u8], j: u32) -> ColumnPlace
-    ensures value { result ≡ C.column_place passes (length columns.now) j }
-    ensures bytes_in_bounds { result.first + result.bytes ≤ length columns.now }
+    ensures place { result ≡ C.column_place passes (length columns.now) j }
+    ensures inside { result.first + result.bytes ≤ length columns.now }
 {
     if !has_column(passes, columns.len(), j) {
         return ColumnPlace {

@@ -28,8 +28,8 @@ pub extern "C" fn deskcheck_rows(passes: u32, columns: &[u8], rows: &mut [u8]) -
 // Where column j of so many passes stands, or 2. Refused or not, it is a part of the columns.
 #[unsafe(no_mangle)]
 pub extern "C" fn deskcheck_column(passes: u32, columns: &[u8], j: u32) -> ColumnPlace
-    ensures value { result ≡ C.column_place passes (length columns.now) j }
-    ensures bytes_in_bounds { result.first + result.bytes ≤ length columns.now }
+    ensures place { result ≡ C.column_place passes (length columns.now) j }
+    ensures inside { result.first + result.bytes ≤ length columns.now }
 {
     columns::deskcheck_column(passes, columns, j)
 }

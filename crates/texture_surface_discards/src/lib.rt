@@ -21,19 +21,27 @@ pub struct TextureInitRange {
     pub slice: u32,
 }
 
+// A range that C laid out is the definition's, field by field.
+impl From<TextureInitRange> for Range {
+    ghost from_gives = { λ laid_out range. range ≡ range_of laid_out };
+
+    fn from(range: TextureInitRange) -> Range {
+        Range {
+            texture: range.texture,
+            mip: range.mip,
+            mips: range.mips,
+            layer: range.layer,
+            layers: range.layers,
+            slice: range.slice,
+        }
+    }
+}
+
 // A discard outside the range stays.
 fn stays(range: TextureInitRange, s: Surface) -> bool
     ensures { result ≡ not (Surfaces.hits (range_of range) s) }
 {
-    let named = Range {
-        texture: range.texture,
-        mip: range.mip,
-        mips: range.mips,
-        layer: range.layer,
-        layers: range.layers,
-        slice: range.slice,
-    };
-    !hits(named, s)
+    !hits(Range::from(range), s)
 }
 
 // A discard goes after the first n: n + 1. Where the slice has no room for it, n, and the slice stays.
@@ -56,14 +64,12 @@ pub fn deskcheck_retain(discards: &mut [Surface], n: usize, range: TextureInitRa
         return n;
     }
     let mut kept: usize = 0;
-    let mut i: usize = 0;
-    while i < n {
+    for i in 0..n {
         let s = discards[i];
         if stays(range, s) {
             discards[kept] = s;
             kept += 1;
         }
-        i += 1;
     }
     kept
 }

@@ -1,33 +1,21 @@
--- The invariant: the first i attachments are the words so far. There are as many records as a reply has at most.
-use mathlib.Core.Path.{◌≡◌, refl, sym, ap, ◌∙◌}
-use mathlib.Core.List.{List}
-use Prim.Native.Nat.{ℕ, ◌<◌}
-use native.Mathlib.Omega.{arith}
-use native.Mathlib.Numerals.{add-one}
-use borrow.Author.Rules.{rules}
-use lib.ListN.{length}
-use Rattle.definition.specs.Sizes.{max_attachments}
+-- Attachment after attachment.
+use Rattle.std.proofs.Common.{refl, sym, ◌+◌, ◌∙◌}
 use Rattle.answer_words.specs.Words.{next_words, attachments_words}
-use Rattle.answer_words.proofs.Words.{words_append, attachments_more, attachments_all}
+use Rattle.answer_words.proofs.Laws.{attachment_turn, attachments_stop}
 use Rattle.answer_words.proofs.attachments.Goals as goal
 
-pub loop-i-init : goal.loop-i-init
+pub loop-a-init : goal.loop-a-init
 unfolding next_words attachments_words
-loop-i-init c = (refl, omega arith)
+loop-a-init c = refl
 
-pub loop-i-preserved : goal.loop-i-preserved
-loop-i-preserved c =
-    let at = c.loop-i in
-    let long : length c.args.records ≡ max_attachments = search rules in
-    let h : at.i < length c.args.records = omega arith in (
-      rw add-one (c.attachment-q.ensures
-          ∙ rw at.invariant.0 (sym (words_append c.args.list.now c.args.p (attachments_words c.args.records at.i) _)
-          ∙ ap (λ (ws : List ℕ). next_words c.args.list.now c.args.p ws) (sym (attachments_more c.args.records at.i _ h)))),
-      omega arith,
-    )
+pub loop-a-preserved : goal.loop-a-preserved
+loop-a-preserved c =
+    let l = c.loop-a in
+    c.in_ok-rest.ensures ∙ sym (attachment_turn c.args.list.now c.args.records.now l.a-index _ l.rest.now c.loop-a-test.true l.invariant)
 
-pub returns : goal.returns
-returns c =
-    let at = c.loop-i in
-    let long : length c.args.records ≡ max_attachments = search rules in
-    at.invariant.0 ∙ ap (λ (ws : List ℕ). next_words c.args.list.now c.args.p ws) (attachments_all c.args.records at.i c.args.count (omega arith) (omega arith))
+pub returns-in_err-rest : goal.returns-in_err-rest
+returns-in_err-rest c =
+    let l = c.loop-a in
+    let b = c.args.list.now in
+    let records = c.args.records.now in
+    rw c.from_residual.ensures (sym (attachments_stop b records (l.a-index + 1) (attachment_turn b records l.a-index _ l.rest.now c.loop-a-test.true l.invariant ∙ sym c.in_err-rest.ensures)))
