@@ -119,28 +119,24 @@ refused_written : (way : Way) (s : List ℕ) → session_refusal s ≢ 0 → out
 unfolding written
 refused_written way s n = sym (cond_off _ _ _ (ne_eqb (session_refusal s) 0 n))
 
-pub readable_held : (way : Way) (buffer : List ℕ) (held bytes : ℕ) → session_refusal (take held buffer) ≡ 0
-    → rearranged way (take held buffer) ≡ held_written way buffer held bytes
+pub readable_held : (way : Way) (head : List ℕ) (bytes : ℕ) → session_refusal head ≡ 0 → rearranged way head ≡ held_written way head bytes
 unfolding held_written
-readable_held way buffer held bytes z = sym (cond_on _ _ _ (eq-eqb (session_refusal (take held buffer)) 0 z))
+readable_held way head bytes z = sym (cond_on _ _ _ (eq-eqb (session_refusal head) 0 z))
 
-pub refused_held : (way : Way) (buffer : List ℕ) (held bytes : ℕ) → session_refusal (take held buffer) ≢ 0
-    → held_text buffer held bytes ≡ held_written way buffer held bytes
+pub refused_held : (way : Way) (head : List ℕ) (bytes : ℕ) → session_refusal head ≢ 0 → held_text head bytes ≡ held_written way head bytes
 unfolding held_written
-refused_held way buffer held bytes n = sym (cond_off _ _ _ (ne_eqb (session_refusal (take held buffer)) 0 n))
+refused_held way head bytes n = sym (cond_off _ _ _ (ne_eqb (session_refusal head) 0 n))
 
-module _ (way : Way) {buffer : List ℕ} {held bytes : ℕ} {file : List ℕ} (holds : Holds buffer held bytes file) (room : held ≤ length buffer) (enough : Enough held bytes) where
+module _ (way : Way) {head : List ℕ} {bytes : ℕ} {file : List ℕ} (holds : Holds head bytes file) (enough : Enough (length head) bytes) where
   -- What is readable is no longer than a session, and is the file.
-  few : session_refusal (take held buffer) ≡ 0 → held ≤ longest_session
-  few z =
-      by_order held longest_session (λ h. h)
-      (λ h. absurd (long_not_readable (take held buffer) (omega (arith, length-take-le held buffer room)) z))
+  few : session_refusal head ≡ 0 → length head ≤ longest_session
+  few z = by_order (length head) longest_session (λ h. h) (λ h. absurd (long_not_readable head h z))
 
-  pub readable_file : session_refusal (take held buffer) ≡ 0 → rearranged way (take held buffer) ≡ written way file
-  readable_file z = readable_written way (take held buffer) z ∙ ap (written way) (held_whole holds room enough (few z))
+  pub readable_file : session_refusal head ≡ 0 → rearranged way head ≡ written way file
+  readable_file z = readable_written way head z ∙ ap (written way) (held_whole holds enough (few z))
 
   -- What is refused is the file, or the front of one that is longer than any session.
-  pub refused_file : session_refusal (take held buffer) ≢ 0 → output file ≡ written way file
+  pub refused_file : session_refusal head ≢ 0 → output file ≡ written way file
   refused_file n =
       refused_written way file
-      (λ z. by_order held longest_session (λ h. n (ap session_refusal (held_whole holds room enough h) ∙ z)) (λ h. long_not_readable file (held_long holds room h) z))
+      (λ z. by_order (length head) longest_session (λ h. n (ap session_refusal (held_whole holds enough h) ∙ z)) (λ h. long_not_readable file (held_long holds h) z))

@@ -35,19 +35,18 @@ fn put_rearranged(way: Way, session: &[u8], out: &mut [u8]) -> usize
     session.len()
 }
 
-// A file of `bytes` bytes, of which the buffer holds the first `held`: the whole file, or more than any session has.
-pub fn write_file(way: Way, buffer: &[u8], held: usize, bytes: u64, out: &mut [u8]) -> usize
-    requires held_in_bounds { (held ≤ length buffer.now) × Enough held bytes }
-    requires longest_session_in_bounds { longest_session ≤ length out.old }
-    ensures printed { Printed out.old (held_written way buffer.now held bytes) out.new result }
-    ensures by_index { (file : List ℕ) → Holds buffer.now held bytes file →
+// A file of `bytes` bytes, of which the first are held: the whole file, or more than any session has.
+pub fn write_file(way: Way, head: &[u8], bytes: u64, out: &mut [u8]) -> usize
+    requires enough { Enough (length head.now) bytes }
+    requires room { longest_session ≤ length out.old }
+    ensures printed { Printed out.old (held_written way head.now bytes) out.new result }
+    ensures defined { (file : List ℕ) → Holds head.now bytes file →
         take result out.new ≡ written way file }
 {
-    let session = &buffer[..held];
-    if session_refusal(session) != 0 {
-        return print_file(buffer, held, bytes, out);
+    if session_refusal(head) != 0 {
+        return print_file(head, bytes, out);
     }
-    put_rearranged(way, session, out)
+    put_rearranged(way, head, out)
 }
 
 // What is to be written for the input: its length. Where reading failed there is nothing.
@@ -62,5 +61,5 @@ pub fn answer<R: Read>(way: Way, input: &mut R, out: &mut [u8]) -> io::Result<us
 {
     let mut buffer = [0u8; BUFFER_BYTES];
     let file = read_file(input, &mut buffer)?;
-    Ok(write_file(way, &buffer, file.held, file.bytes, out))
+    Ok(write_file(way, file.head, file.bytes, out))
 }

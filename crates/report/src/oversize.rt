@@ -20,8 +20,8 @@ pub fn past_length_field(bytes: u64) -> bool
 
 // 1 where the length field is wrong, else 2.
 pub fn oversize_refusal(head: &[u8], bytes: u64) -> u32
-    ensures value { result ≡ oversize_number (Se.total_length head.now) bytes }
-    ensures head_in_bounds { Se.total_length head.now < length_bound }
+    ensures number { result ≡ oversize_number (Se.total_length head.now) bytes }
+    ensures below_the_bound { Se.total_length head.now < length_bound }
 {
     if u32_at(head, TOTAL_LENGTH_AT) as u64 == bytes {
         Refusal::InvalidHeader.number()
