@@ -20,9 +20,8 @@ use Rattle.laws.proofs.Tests.{clash}
 use Rattle.laws.proofs.Records.{records_length, past_more, append_count}
 use Rattle.lists.specs.Lists.{CountSet, Becomes}
 use Rattle.lists.proofs.Lists.{becomes}
-use Rattle.memory_init.specs.Plans.{needs, plan_in, plans_in, Whole}
+use Rattle.memory_init.specs.Plans.{needs, plan_in, plans_in}
 use Rattle.memory_init.specs.declared.Planned.{Planned}
-use Rattle.memory_init.specs.declared.Plans.{Plans}
 use Rattle.memory_init.proofs.Turns.{plans_turn, plans_done}
 
 -- ── one record
@@ -125,24 +124,24 @@ abbrev pub returned : List Surface → Parts Surface
 returned d = record { one = λ p. returned_by p.kind p.range d; all = λ ps. returned_all ps d; last = refl; next = λ p ps. refl }
 
 -- A loop over the plans: those from i on are left.
-module _ {A : Type 0} (f : Parts A) (plans : Plans) (whole : Whole plans) {k : ℕ} {decode : List ℕ → A} {n : ℕ} {l₀ : List ℕ} {l : List ℕ} {end : ℕ} (i : ℕ)
-    (g : Appending k decode n (f.all (plans_in plans)) l₀ (f.all (drop i (plans_in plans))) l end) where
+module _ {A : Type 0} (f : Parts A) (ps : List Planned) {k : ℕ} {decode : List ℕ → A} {n : ℕ} {l₀ : List ℕ} {l : List ℕ} {end : ℕ} (i : ℕ)
+    (g : Appending k decode n (f.all (plans_in ps)) l₀ (f.all (drop i (plans_in ps))) l end) where
   -- What is left is what the plan at i gives and what is left after it.
-  left_turn : (o : Planned) → i < plans.count → f.all (drop i (plans_in plans)) ≡ f.one (plan_in (get_or plans.planned i o)) ++ f.all (drop (i + 1) (plans_in plans))
-  left_turn o more = ap f.all (plans_turn plans whole o (get_or plans.planned i o) i more refl) ∙ f.next _ _
+  left_turn : (o : Planned) → i < length ps → f.all (drop i (plans_in ps)) ≡ f.one (plan_in (get_or ps i o)) ++ f.all (drop (i + 1) (plans_in ps))
+  left_turn o more = ap f.all (plans_turn ps o i more) ∙ f.next _ _
 
   -- There is room for what it gives where there is room for all.
-  pub plan_room : (o : Planned) (m : ℕ) → i < plans.count → list_bytes k (n + length (f.all (plans_in plans))) ≤ m → list_bytes k (end + length (f.one (plan_in (get_or plans.planned i o)))) ≤ m
-  plan_room o m more h = omega (arith, h, mul-le-mul_left k (appending_room g (f.one (plan_in (get_or plans.planned i o))) (f.all (drop (i + 1) (plans_in plans))) (left_turn o more)))
+  pub plan_room : (o : Planned) (m : ℕ) → i < length ps → list_bytes k (n + length (f.all (plans_in ps))) ≤ m → list_bytes k (end + length (f.one (plan_in (get_or ps i o)))) ≤ m
+  plan_room o m more h = omega (arith, h, mul-le-mul_left k (appending_room g (f.one (plan_in (get_or ps i o))) (f.all (drop (i + 1) (plans_in ps))) (left_turn o more)))
 
   -- It is appended.
-  pub plan_turn : (o : Planned) {l' : List ℕ} {end' : ℕ} → i < plans.count → Appended k decode end (f.one (plan_in (get_or plans.planned i o))) l l' end'
-      → Appending k decode n (f.all (plans_in plans)) l₀ (f.all (drop (i + 1) (plans_in plans))) l' end'
+  pub plan_turn : (o : Planned) {l' : List ℕ} {end' : ℕ} → i < length ps → Appended k decode end (f.one (plan_in (get_or ps i o))) l l' end'
+      → Appending k decode n (f.all (plans_in ps)) l₀ (f.all (drop (i + 1) (plans_in ps))) l' end'
   plan_turn o more = appending_turn g (left_turn o more)
 
   -- After the last plan all is appended.
-  pub plan_done : i ≡ plans.count → Appended k decode n (f.all (plans_in plans)) l₀ l end
-  plan_done e = appending_done g (ap (λ (q : ℕ). f.all (drop q (plans_in plans))) e ∙ ap f.all (plans_done plans whole) ∙ f.last)
+  pub plan_done : i ≡ length ps → Appended k decode n (f.all (plans_in ps)) l₀ l end
+  plan_done e = appending_done g (ap (λ (q : ℕ). f.all (drop q (plans_in ps))) e ∙ ap f.all (plans_done ps) ∙ f.last)
 
 -- Records from the front on replace a list, and are counted.
 pub replace_becomes : {A : Type 0} {k : ℕ} {decode : List ℕ → A} {xs : List A} {x : ℕ} {b₁ b₂ : List ℕ} (b : List ℕ) → Appended k decode 0 xs (drop count_bytes b) (drop count_bytes b₁) x → CountSet x b₁ b₂ → Becomes k decode xs b b₂
