@@ -20,9 +20,8 @@ use Rattle.laws.proofs.Plans.{none_leave}
 use Rattle.lists.specs.Lists.{surface_of, count_in, surfaces_in, CountSet, SurfacesBecome}
 use Rattle.lists.proofs.Lists.{becomes}
 use Rattle.memory_init.specs.declared.Planned.{Planned}
-use Rattle.memory_init.specs.declared.Plans.{Plans}
-use Rattle.memory_init.specs.Plans.{init_kind, plans_in, Whole}
-use Rattle.memory_init.proofs.Turns.{plans_turn, plans_done}
+use Rattle.memory_init.specs.Plans.{plans_in, plan_in}
+use Rattle.memory_init.proofs.Turns.{plans_turn}
 use Rattle.memory_init.proofs.Entries.{Parts}
 use Rattle.discard_list.specs.Discards.{stays_by, stays, Keeps}
 
@@ -56,13 +55,14 @@ staying_tested (p ∷ ps) d =
     ∙ ap (retain (stays ps)) (staying_tested_by p.kind p.range d)
     ∙ staying_tested ps (staying_by p.kind p.range d)
 
--- By the plans from place i on, of which the next is p and answers b, a surface stays as by all.
-module _ (ps : Plans) (whole : Whole ps) (o p : Planned) (s : Surface) (i : ℕ) (more : i < ps.count) (read : p ≡ get_or ps.planned i o) (left : stays (drop i (plans_in ps)) s ≡ stays (plans_in ps) s) (b : Bool) (asked : b ≡ stays_by (init_kind p.kind) p.range s) where
+-- By the plans from place i on, of which the next answers b, a surface stays as by all.
+module _ (ps : List Planned) (o : Planned) (s : Surface) (i : ℕ) (more : i < length ps) (left : stays (drop i (plans_in ps)) s ≡ stays (plans_in ps) s)
+    (b : Bool) (asked : b ≡ stays_by (plan_in (get_or ps i o)).kind (get_or ps i o).range s) where
   -- The next one's answer and then that of those behind it is the answer of all.
   turned : (b && stays (drop (i + 1) (plans_in ps)) s) ≡ stays (plans_in ps) s
   turned =
       ap (λ q. q && stays (drop (i + 1) (plans_in ps)) s) asked
-      ∙ sym (ap (λ l. stays l s) (plans_turn ps whole o p i more read))
+      ∙ sym (ap (λ l. stays l s) (plans_turn ps o i more))
       ∙ left
 
   -- It stays by the next: it stays as by those behind it.
@@ -72,10 +72,6 @@ module _ (ps : Plans) (whole : Whole ps) (o p : Planned) (s : Surface) (i : ℕ)
   -- It leaves by the next: it leaves.
   pub stays_not : b ≡ false → false ≡ stays (plans_in ps) s
   stays_not h = ap (λ q. q && stays (drop (i + 1) (plans_in ps)) s) (sym h) ∙ turned
-
--- After the last plan it stays.
-pub stays_done : (ps : Plans) → Whole ps → (s : Surface) (i : ℕ) → i ≡ ps.count → stays (drop i (plans_in ps)) s ≡ stays (plans_in ps) s → true ≡ stays (plans_in ps) s
-stays_done ps whole s i e left = sym (ap (λ l. stays l s) (ap (λ (q : ℕ). drop q (plans_in ps)) e ∙ plans_done ps whole)) ∙ left
 
 -- A compaction by the plans' test keeps what stays by all of them.
 pub compact_stays : (ps : List Plan) {n kept i : ℕ} {l₀ l : List ℕ} → Compacting surface_bytes surface_of (stays ps) n l₀ l kept i → n ≤ i → Keeps (staying_all ps) n kept l₀ l

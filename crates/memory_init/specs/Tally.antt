@@ -1,5 +1,6 @@
 -- What a pass finds in the lists, counted.
-use Rattle.std.specs.Prelude.{ℕ, ◌+◌, ◌*◌, ◌≤◌, ◌≡◌, List, length}
+use Rattle.std.specs.Prelude as code
+use Rattle.std.specs.Prelude.{ℕ, ◌+◌, ◌*◌, ◌≤◌, ◌≡◌, true, false, List, length, None, Some}
 use Rattle.std.proofs.Math.Option.{Option}
 use Rattle.definition.specs.Sizes.{max_discards, max_attachments, discards_bytes}
 use Rattle.definition.specs.declared.Surface.{Surface}
@@ -24,10 +25,15 @@ pub record FoundBy (k : Option MemoryInitKind) (r : Range) (d : List Surface) (f
   pub most_returned : f.returned ≤ max_discards
   pub most_added : f.added ≤ max_discards + 1
 
--- What plans find among them, and whether every step has room.
+-- What plans find among them, where every step has room.
 pub record TallyOf (ps : List Plan) (d : List Surface) (t : Tally) : Type 0 where
-  pub fits : t.fits ≡ steps_fit ps (length d) d
+  pub fits : steps_fit ps (length d) d ≡ true
   pub leaving : t.leaving ≡ length (leaving_all ps d)
   pub returned : t.returned ≡ length (returned_all ps d)
   pub added : t.added ≡ length (added_all ps d)
   pub most_added : t.added ≤ max_attachments * (max_discards + 1)
+
+-- None where a step has no room.
+abbrev pub Tallied : List Plan → List Surface → code.Option Tally → Type 0
+Tallied ps d None = steps_fit ps (length d) d ≡ false
+Tallied ps d (Some t) = TallyOf ps d t

@@ -4,27 +4,12 @@
 
 pub mod tally;
 
-use definition::sizes::MAX_ATTACHMENTS;
 use definition::{MemoryInitKind, Range};
 
-// What an attachment registers, if anything.
-#[derive(Clone, Copy)]
-pub enum InitKind {
-    None,
-    Some(MemoryInitKind),
-}
-
-// What an attachment does to the lists: of its surfaces, the action that it registers and whether it lists a discard.
+// What an attachment does to the lists: of its surfaces, the action that it registers, if any, and whether it lists a discard.
 #[derive(Clone, Copy)]
 pub struct Planned {
     pub range: Range,
-    pub kind: InitKind,
+    pub kind: Option<MemoryInitKind>,
     pub discards: bool,
-}
-
-// What the attachments of a pass do, in order: the first `count`.
-#[derive(Clone, Copy)]
-pub struct Plans {
-    pub planned: [Planned; MAX_ATTACHMENTS],
-    pub count: u32,
 }

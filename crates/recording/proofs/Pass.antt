@@ -18,9 +18,7 @@ use Rattle.laws.proofs.Plans.{none_returned, none_implicit}
 use Rattle.lists.specs.Lists.{action_of_bytes, count_in, surfaces_in, actions_in, Room, SurfacesBecome, ActionsBecome, first_surfaces}
 use Rattle.lists.specs.Lent.{ListBytes, bytes, lists_in, Leaves}
 use Rattle.lists.proofs.Lists.{list_length}
-use Rattle.memory_init.specs.declared.Plans.{Plans}
 use Rattle.memory_init.specs.declared.tally.Tally.{Tally}
-use Rattle.memory_init.specs.Plans.{plans_in}
 use Rattle.discard_list.specs.Discards.{LentDiscards}
 use Rattle.recording.specs.Recording.{looked, Recordable}
 
@@ -52,11 +50,7 @@ looked_most leaving n = go (eqb leaving 0)
     go false = omega arith
 
 -- Lent lists that have room for what the plans leave, of which the first n discards are looked at.
-module _ (plans : Plans) (t : Tally) (b : ListBytes) (r : Recordable plans t b) (n : ℕ) (looks : n ≡ looked t.leaving (count_in b.discards)) where
-  -- Its plans.
-  abbrev ps : List Plan
-  ps = plans_in plans
-
+module _ (ps : List Plan) (t : Tally) (b : ListBytes) (r : Recordable ps t b) (n : ℕ) (looks : n ≡ looked t.leaving (count_in b.discards)) where
   -- The actions are those of all discards.
   all_added : added_all ps (first_surfaces n b.discards) ≡ added_all ps (surfaces_in b.discards)
   all_added = ap (λ (q : ℕ). added_all ps (first_surfaces q b.discards)) looks ∙ looked_same (added_all ps) ps t.leaving b.discards r.tallied.leaving (none_implicit ps)

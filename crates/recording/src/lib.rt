@@ -12,14 +12,14 @@ ghost use Rattle.laws.specs.Records.{Appended};
 ghost use Rattle.laws.specs.Plans.{returned_by, added_by, returned_all, added_all, together};
 ghost use Rattle.lists.specs.Lists.{surface_of, action_of_bytes, count_in, actions_in, Room, SurfacesBecome, ActionsBecome, first_surfaces};
 ghost use Rattle.lists.specs.Lent.{bytes, lists_in, Leaves};
-ghost use Rattle.memory_init.specs.Plans.{init_kind, needs, plans_in, Whole};
+ghost use Rattle.memory_init.specs.Plans.{init_kind, plans_in};
 ghost use Rattle.recording.specs.Recording.{looked, Recordable};
 
 use definition::{MemoryInitKind, Range};
 use discard_list::record_discards;
 use lists::{count, put_action, put_surface, set_count, surface_at};
+use memory_init::Planned;
 use memory_init::tally::Tally;
-use memory_init::{InitKind, Plans};
 use ranges::{hits, only_range};
 
 // ── actions
@@ -32,14 +32,13 @@ fn push_implicit_actions(
     actions: &mut [u8],
     y: usize,
 ) -> usize
-    requires n_in_bounds { list_bytes surface_bytes n ≤ length discards.now }
-    requires discards_in_bounds { list_bytes action_bytes (y + length (matching range (first_surfaces n discards.now))) ≤ length actions.old }
+    requires discards_inside { list_bytes surface_bytes n ≤ length discards.now }
+    requires actions_inside { list_bytes action_bytes (y + length (matching range (first_surfaces n discards.now))) ≤ length actions.old }
     ensures { Appended action_bytes action_of_bytes y (map implicit_at (matching range (first_surfaces n discards.now)))
         (drop count_bytes actions.old) (drop count_bytes actions.new) result }
 {
     let mut end = y;
-    let mut i: usize = 0;
-    while i < n {
+    for i in 0..n {
         let s = surface_at(discards, i);
         if hits(range, s) {
             put_action(
@@ -50,7 +49,6 @@ fn push_implicit_actions(
             );
             end += 1;
         }
-        i += 1;
     }
     end
 }
@@ -64,8 +62,8 @@ fn push_action(
     actions: &mut [u8],
     y: usize,
 ) -> usize
-    requires n_in_bounds { list_bytes surface_bytes n ≤ length discards.now }
-    requires xs_in_bounds { let xs = added_by (some kind) range (first_surfaces n discards.now) in
+    requires discards_inside { list_bytes surface_bytes n ≤ length discards.now }
+    requires actions_inside { let xs = added_by (some kind) range (first_surfaces n discards.now) in
         list_bytes action_bytes (y + length xs) ≤ length actions.old }
     ensures { let xs = added_by (some kind) range (first_surfaces n discards.now) in
         Appended action_bytes action_of_bytes y xs (drop count_bytes actions.old) (drop count_bytes actions.new) result }
@@ -88,41 +86,32 @@ fn push_actions(
     discards: &[u8],
     n: usize,
     range: Range,
-    kind: InitKind,
+    kind: Option<MemoryInitKind>,
     actions: &mut [u8],
     y: usize,
 ) -> usize
-    requires n_in_bounds { list_bytes surface_bytes n ≤ length discards.now }
-    requires xs_in_bounds { let xs = added_by (init_kind kind) range (first_surfaces n discards.now) in
+    requires discards_inside { list_bytes surface_bytes n ≤ length discards.now }
+    requires actions_inside { let xs = added_by (init_kind kind) range (first_surfaces n discards.now) in
         list_bytes action_bytes (y + length xs) ≤ length actions.old }
     ensures { let xs = added_by (init_kind kind) range (first_surfaces n discards.now) in
         Appended action_bytes action_of_bytes y xs (drop count_bytes actions.old) (drop count_bytes actions.new) result }
 {
-    let InitKind::Some(k) = kind else {
-        return y;
-    };
-    push_action(discards, n, range, k, actions, y)
+    match kind {
+        Some(k) => push_action(discards, n, range, k, actions, y),
+        None => y,
+    }
 }
 
 // The actions of all plans, by the first n discards, go to the end of the list.
-fn record_actions(discards: &[u8], n: usize, actions: &mut [u8], plans: Plans)
-    requires whole { Whole plans }
-    requires n_in_bounds { list_bytes surface_bytes n ≤ length discards.now }
-    requires room { Room action_bytes (count_in actions.old + length (added_all (plans_in plans) (first_surfaces n discards.now))) actions.old }
-    ensures { ActionsBecome (actions_in actions.old ++ added_all (plans_in plans) (first_surfaces n discards.now))
+fn record_actions(discards: &[u8], n: usize, actions: &mut [u8], plans: &[Planned])
+    requires discards_inside { list_bytes surface_bytes n ≤ length discards.now }
+    requires room { Room action_bytes (count_in actions.old + length (added_all (plans_in plans.now) (first_surfaces n discards.now))) actions.old }
+    ensures { ActionsBecome (actions_in actions.old ++ added_all (plans_in plans.now) (first_surfaces n discards.now))
         actions.old actions.new }
 {
-    let k = plans.count;
-    let planned = plans.planned;
     let mut end = count(actions);
-    let mut i = 0u32;
-    while i < k {
-        let at = i as usize;
-        let p = planned[at];
-        let range = p.range;
-        let kind = p.kind;
-        end = push_actions(discards, n, range, kind, actions, end);
-        i += 1;
+    for p in plans {
+        end = push_actions(discards, n, p.range, p.kind, actions, end);
     }
     set_count(actions, end);
 }
@@ -131,76 +120,54 @@ fn record_actions(discards: &[u8], n: usize, actions: &mut [u8], plans: Plans)
 
 // The first n discards that are in the range, from place y on.
 fn return_matching(discards: &[u8], n: usize, range: Range, clears: &mut [u8], y: usize) -> usize
-    requires n_in_bounds { list_bytes surface_bytes n ≤ length discards.now }
-    requires discards_in_bounds { list_bytes surface_bytes (y + length (matching range (first_surfaces n discards.now))) ≤ length clears.old }
+    requires discards_inside { list_bytes surface_bytes n ≤ length discards.now }
+    requires clears_inside { list_bytes surface_bytes (y + length (matching range (first_surfaces n discards.now))) ≤ length clears.old }
     ensures { Appended surface_bytes surface_of y (matching range (first_surfaces n discards.now))
         (drop count_bytes clears.old) (drop count_bytes clears.new) result }
 {
     let mut end = y;
-    let mut i: usize = 0;
-    while i < n {
+    for i in 0..n {
         let s = surface_at(discards, i);
         if hits(range, s) {
             put_surface(clears, end, s);
             end += 1;
         }
-        i += 1;
     }
     end
 }
 
-// Whether a registration or none returns clears: a needing one does.
-fn returns_clears(kind: InitKind) -> bool
-    ensures { result ≡ needs (init_kind kind) }
-{
-    let InitKind::Some(k) = kind else {
-        return false;
-    };
-    match k {
-        MemoryInitKind::ImplicitlyInitialized => false,
-        MemoryInitKind::NeedsInitializedMemory => true,
-    }
-}
-
-// What a registration or none returns, from place y on.
+// What a registration or none returns, from place y on: a needing one returns what it takes out.
 fn return_by(
     discards: &[u8],
     n: usize,
     range: Range,
-    kind: InitKind,
+    kind: Option<MemoryInitKind>,
     clears: &mut [u8],
     y: usize,
 ) -> usize
-    requires n_in_bounds { list_bytes surface_bytes n ≤ length discards.now }
-    requires xs_in_bounds { let xs = returned_by (init_kind kind) range (first_surfaces n discards.now) in
+    requires discards_inside { list_bytes surface_bytes n ≤ length discards.now }
+    requires clears_inside { let xs = returned_by (init_kind kind) range (first_surfaces n discards.now) in
         list_bytes surface_bytes (y + length xs) ≤ length clears.old }
     ensures { let xs = returned_by (init_kind kind) range (first_surfaces n discards.now) in
         Appended surface_bytes surface_of y xs (drop count_bytes clears.old) (drop count_bytes clears.new) result }
 {
-    if !returns_clears(kind) {
-        return y;
+    match kind {
+        Some(MemoryInitKind::NeedsInitializedMemory) => return_matching(
+            discards, n, range, clears, y,
+        ),
+        _ => y,
     }
-    return_matching(discards, n, range, clears, y)
 }
 
 // What all plans return of the first n discards replaces the clears.
-fn return_clears(discards: &[u8], n: usize, clears: &mut [u8], plans: Plans)
-    requires whole { Whole plans }
-    requires n_in_bounds { list_bytes surface_bytes n ≤ length discards.now }
-    requires room { Room surface_bytes (length (returned_all (plans_in plans) (first_surfaces n discards.now))) clears.old }
-    ensures { SurfacesBecome (returned_all (plans_in plans) (first_surfaces n discards.now)) clears.old clears.new }
+fn return_clears(discards: &[u8], n: usize, clears: &mut [u8], plans: &[Planned])
+    requires discards_inside { list_bytes surface_bytes n ≤ length discards.now }
+    requires room { Room surface_bytes (length (returned_all (plans_in plans.now) (first_surfaces n discards.now))) clears.old }
+    ensures { SurfacesBecome (returned_all (plans_in plans.now) (first_surfaces n discards.now)) clears.old clears.new }
 {
-    let k = plans.count;
-    let planned = plans.planned;
     let mut end: usize = 0;
-    let mut i = 0u32;
-    while i < k {
-        let at = i as usize;
-        let p = planned[at];
-        let range = p.range;
-        let kind = p.kind;
-        end = return_by(discards, n, range, kind, clears, end);
-        i += 1;
+    for p in plans {
+        end = return_by(discards, n, p.range, p.kind, clears, end);
     }
     set_count(clears, end);
 }
@@ -219,12 +186,12 @@ pub fn record_pass(
     discards: &mut [u8],
     actions: &mut [u8],
     clears: &mut [u8],
-    plans: Plans,
+    plans: &[Planned],
     t: Tally,
 )
-    requires { Recordable plans t (bytes discards.old actions.old clears.old) }
+    requires { Recordable (plans_in plans.now) t (bytes discards.old actions.old clears.old) }
     ensures { let b = bytes discards.old actions.old clears.old in
-        Leaves (together (plans_in plans) (new_pass (lists_in b))) b
+        Leaves (together (plans_in plans.now) (new_pass (lists_in b))) b
         (bytes discards.new actions.new clears.new) }
 {
     let n = looked_at(discards, t.leaving);

@@ -15,13 +15,10 @@ room : (r : Range) (i : ℕ) {n end : ℕ} {l₀ l : List ℕ} → i < r.layers 
 room r i more g = omega (arith, appending_room g (_ ∷ []) _ (layers_turn r i _ more refl), layers_count r.texture r.mip r.slice r.layer r.layers)
 
 pub put_surface-requires : goal.put_surface-requires
-put_surface-requires c = omega (arith, room c.args.range c.loop-i.i c.loop-i-test.true c.loop-i.invariant.0)
+put_surface-requires c = omega (arith, room c.args.range c.loop-i.i c.loop-i-test.true c.loop-i.invariant)
 
 pub overflow_add-end : goal.overflow_add-end
-overflow_add-end c = omega (arith, room c.args.range c.loop-i.i c.loop-i-test.true c.loop-i.invariant.0)
+overflow_add-end c = omega (arith, room c.args.range c.loop-i.i c.loop-i-test.true c.loop-i.invariant)
 
 pub loop-i-preserved : goal.loop-i-preserved
-loop-i-preserved c = (
-  appending_turn c.loop-i.invariant.0 (layers_turn c.args.range c.loop-i.i _ c.loop-i-test.true c.layer_at.ensures) (write_append _ _ _ _ _ _ c.put_surface.ensures),
-  omega arith,
-)
+loop-i-preserved c = appending_turn c.loop-i.invariant (layers_turn c.args.range c.loop-i.i _ c.loop-i-test.true c.layer_at.ensures) (write_append _ _ _ _ _ _ c.put_surface.ensures)

@@ -1,5 +1,5 @@
 -- Compaction in place, with the test that the discard stays by all plans.
-use Rattle.std.proofs.Common.{ap, drop}
+use Rattle.std.proofs.Common.{arith, ap, drop}
 use Rattle.definition.specs.Sizes.{count_bytes}
 use Rattle.laws.proofs.Compact.{compact_start, compact_passes}
 use Rattle.laws.proofs.Kept.{compact_keeps}
@@ -24,4 +24,4 @@ loop-i-preserved c =
     ]
 
 pub returns : goal.returns
-returns c = compact_stays (plans_in c.args.plans) c.loop-i.invariant c.loop-i-test.false
+returns c = compact_stays (plans_in c.args.plans.now) c.loop-i.invariant (omega arith)

@@ -1,5 +1,4 @@
 -- Compaction in place, with the test that the discard stays by all plans.
-use Prim.Native.Nat.{◌-◌}
 use lib.ListN.{drop}
 use Rattle.definition.specs.Sizes.{surface_bytes, count_bytes}
 use Rattle.laws.proofs.Compact.{Compacting}
@@ -11,6 +10,3 @@ use Rattle.discard_list.proofs.retain_all.Given as goal
 abbrev pub invariant-loop-i : goal.invariant-loop-i
 invariant-loop-i l =
     Compacting surface_bytes surface_of (R.stays (plans_in l.plans)) l.n (drop count_bytes l.initial.discards) (drop count_bytes l.discards) l.kept l.i
-
-abbrev pub decreases-loop-i : goal.decreases-loop-i
-decreases-loop-i l = l.n - l.i

@@ -1,14 +1,9 @@
 -- By the plans that are left a discard stays as by all of them.
 use mathlib.Core.Path.{◌≡◌}
-use mathlib.Core.List.{map}
-use Prim.Native.Nat.{◌-◌, ◌≤◌}
-use lib.ListN.{take, drop}
-use Rattle.memory_init.specs.Plans.{plan_in}
+use lib.ListN.{drop}
+use Rattle.memory_init.specs.Plans.{plans_in}
 use Rattle.discard_list.specs.Discards as R
 use Rattle.discard_list.proofs.stays.Given as goal
 
-abbrev pub invariant-loop-i : goal.invariant-loop-i
-invariant-loop-i l = (R.stays (drop l.i (map plan_in (take l.k l.planned))) l.s ≡ R.stays (map plan_in (take l.k l.planned)) l.s) × (l.i ≤ l.k)
-
-abbrev pub decreases-loop-i : goal.decreases-loop-i
-decreases-loop-i l = l.k - l.i
+abbrev pub invariant-loop-p : goal.invariant-loop-p
+invariant-loop-p l = R.stays (drop l.p-index (plans_in l.plans)) l.s ≡ R.stays (plans_in l.plans) l.s

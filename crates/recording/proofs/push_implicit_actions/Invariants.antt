@@ -1,5 +1,4 @@
 -- Each discard that the range hits gives the implicit action of its surface.
-use Prim.Native.Nat.{◌-◌}
 use lib.ListN.{drop}
 use Rattle.definition.specs.Sizes.{surface_bytes, action_bytes, count_bytes}
 use Rattle.definition.specs.Surfaces.{hits}
@@ -11,6 +10,3 @@ use Rattle.recording.proofs.push_implicit_actions.Given as goal
 abbrev pub invariant-loop-i : goal.invariant-loop-i
 invariant-loop-i l =
     Extending surface_bytes surface_of (hits l.range) implicit_at action_bytes action_of_bytes l.n (drop count_bytes l.discards) l.y (drop count_bytes l.initial.actions) (drop count_bytes l.actions) l.end l.i
-
-abbrev pub decreases-loop-i : goal.decreases-loop-i
-decreases-loop-i l = l.n - l.i

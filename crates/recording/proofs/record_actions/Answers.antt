@@ -4,15 +4,15 @@ use Rattle.lists.specs.Lists.{first_surfaces}
 use Rattle.memory_init.proofs.Entries.{appending_count, added, plan_room, plan_turn}
 use Rattle.recording.proofs.record_actions.Goals as goal
 
-pub push_actions-end-requires-clause-xs_in_bounds : goal.push_actions-end-requires-clause-xs_in_bounds
-push_actions-end-requires-clause-xs_in_bounds c =
+pub push_actions-end-requires-clause-actions_inside : goal.push_actions-end-requires-clause-actions_inside
+push_actions-end-requires-clause-actions_inside c =
     let d = first_surfaces c.args.n c.args.discards.now in
-    plan_room (added d) c.args.plans c.requires.whole c.loop-i.i c.loop-i.invariant.0 _ _ c.loop-i-test.true (omega (arith, c.requires.room.bytes))
+    plan_room (added d) c.args.plans.now c.loop-p.p-index c.loop-p.invariant _ _ (omega arith) (omega (arith, c.requires.room.bytes))
 
-pub loop-i-preserved : goal.loop-i-preserved
-loop-i-preserved c =
+pub loop-p-preserved : goal.loop-p-preserved
+loop-p-preserved c =
     let d = first_surfaces c.args.n c.args.discards.now in
-    (plan_turn (added d) c.args.plans c.requires.whole c.loop-i.i c.loop-i.invariant.0 _ c.loop-i-test.true c.push_actions-end.ensures, omega arith)
+    plan_turn (added d) c.args.plans.now c.loop-p.p-index c.loop-p.invariant _ (omega arith) c.push_actions-end.ensures
 
 pub set_count-requires : goal.set_count-requires
-set_count-requires c = (omega arith, omega (arith, appending_count c.loop-i.invariant.0))
+set_count-requires c = (omega arith, omega (arith, appending_count c.loop-p.invariant))

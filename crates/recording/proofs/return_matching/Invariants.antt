@@ -1,5 +1,4 @@
 -- Each discard that the range hits is appended to the clears as it is.
-use Prim.Native.Nat.{◌-◌}
 use lib.ListN.{drop}
 use Rattle.definition.specs.Sizes.{surface_bytes, count_bytes}
 use Rattle.definition.specs.Surfaces.{hits}
@@ -10,6 +9,3 @@ use Rattle.recording.proofs.return_matching.Given as goal
 abbrev pub invariant-loop-i : goal.invariant-loop-i
 invariant-loop-i l =
     Extending surface_bytes surface_of (hits l.range) (λ s. s) surface_bytes surface_of l.n (drop count_bytes l.discards) l.y (drop count_bytes l.initial.clears) (drop count_bytes l.clears) l.end l.i
-
-abbrev pub decreases-loop-i : goal.decreases-loop-i
-decreases-loop-i l = l.n - l.i
