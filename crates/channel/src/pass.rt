@@ -2,15 +2,14 @@
 // Every function is total, and its contract is an equation with the definition at the type of one value.
 ghost use Rattle.std.specs.Prelude.{◌≡◌};
 ghost use Rattle.definition.specs.Channel as Ch;
+ghost use Rattle.definition.specs.Refusals.{number_of};
 ghost use Rattle.channel.specs.Store.{store_in};
 ghost use Rattle.channel.specs.Kind.{kind_in, always, without_ops, resolved_for};
 ghost use Rattle.channel.specs.Pass.{pass_in, handled_in, answer_in};
 
 use crate::{LoadField, LoadKind, Operations, StoreField, check_transient_attachment_ops};
 use definition::Verdict;
-use definition::refusals::{
-    CHANNEL_DONT_CARE, NO_LOAD, NO_STORE, READ_ONLY_WITH_LOAD, READ_ONLY_WITH_STORE,
-};
+use definition::refusals::Refusal;
 use definition::verdicts::{AT_DEPTH_STENCIL, unless};
 
 // PassChannel<V>.
@@ -21,17 +20,17 @@ pub struct PassChannel {
     pub readonly: bool,
 }
 
-// What is made of a clear value: a value, or the number that refuses it.
+// What is made of a clear value: a value, or why it is refused.
 #[derive(Clone, Copy)]
 pub enum Handled {
     Value,
-    Refusal(u32),
+    Refusal(Refusal),
 }
 
-// A resolved channel, or the number that refuses it.
+// A resolved channel, or why it is refused.
 #[derive(Clone, Copy)]
 pub enum Answer {
-    Refused(u32),
+    Refused(Refusal),
     ReadOnly,
     Operational(Operations),
 }
@@ -41,7 +40,7 @@ fn with_store(load: LoadKind, store: StoreField) -> Answer
     ensures { answer_in result ≡ Ch.with_store (kind_in load) (store_in store) }
 {
     let StoreField::Is(op) = store else {
-        return Answer::Refused(NO_STORE);
+        return Answer::Refused(Refusal::NoStore);
     };
     Answer::Operational(Operations {
         load: load,
@@ -63,8 +62,8 @@ impl PassChannel {
     // Of a transient attachment: n where both operations are given and are not Clear or DontCare with Discard,
     // m where one is absent and the channel is read-only.
     #[tactic(auto, unfolding(definition::specs::Channel::transient_channel))]
-    pub fn check_transient(self, n: u32, m: u32) -> Verdict
-        ensures { result ≡ Ch.transient_channel (pass_in self) n m }
+    pub fn check_transient(self, n: Refusal, m: Refusal) -> Verdict
+        ensures { result ≡ Ch.transient_channel (pass_in self) (number_of n) (number_of m) }
     {
         let load = self.load;
         let store = self.store;
@@ -83,8 +82,8 @@ impl PassChannel {
     }
 
     // Read-only, unless it has a load (n) or a store (m).
-    fn without_ops(self, n: u32, m: u32) -> Answer
-        ensures { answer_in result ≡ without_ops (pass_in self).load (pass_in self).store n m }
+    fn without_ops(self, n: Refusal, m: Refusal) -> Answer
+        ensures { answer_in result ≡ without_ops (pass_in self).load (pass_in self).store (number_of n) (number_of m) }
     {
         let load = self.load;
         let store = self.store;
@@ -104,14 +103,14 @@ impl PassChannel {
         let load = self.load;
         let store = self.store;
         let LoadField::Is(op) = load else {
-            return Answer::Refused(NO_LOAD);
+            return Answer::Refused(Refusal::NoLoad);
         };
         match op {
             LoadKind::Load => with_store(LoadKind::Load, store),
             LoadKind::Clear => with_clear(clear, store),
             LoadKind::DontCare => {
                 if strict {
-                    return Answer::Refused(CHANNEL_DONT_CARE);
+                    return Answer::Refused(Refusal::ChannelDontCare);
                 }
                 with_store(LoadKind::DontCare, store)
             }
@@ -124,7 +123,7 @@ impl PassChannel {
         ensures { answer_in result ≡ Ch.resolve (always (handled_in clear)) strict (pass_in self) }
     {
         if self.readonly {
-            self.without_ops(READ_ONLY_WITH_LOAD, READ_ONLY_WITH_STORE)
+            self.without_ops(Refusal::ReadOnlyWithLoad, Refusal::ReadOnlyWithStore)
         } else {
             self.resolve_ops(clear, strict)
         }
@@ -132,16 +131,16 @@ impl PassChannel {
 
     // n with an operation: the format lacks the aspect.
     #[tactic(auto, using(crate::proofs::Resolve::absent))]
-    fn resolve_absent(self, n: u32) -> Answer
-        ensures { answer_in result ≡ Ch.resolve_absent (pass_in self) n }
+    fn resolve_absent(self, n: Refusal) -> Answer
+        ensures { answer_in result ≡ Ch.resolve_absent (pass_in self) (number_of n) }
     {
         self.without_ops(n, n)
     }
 
     // Of an aspect that the format has or lacks: 18 to 24, or n.
     #[tactic(auto, unfolding(crate::specs::Kind::resolved_for))]
-    pub fn resolve(self, has: bool, n: u32, clear: Handled, strict: bool) -> Answer
-        ensures { answer_in result ≡ resolved_for (always (handled_in clear)) n has strict (pass_in self) }
+    pub fn resolve(self, has: bool, n: Refusal, clear: Handled, strict: bool) -> Answer
+        ensures { answer_in result ≡ resolved_for (always (handled_in clear)) (number_of n) has strict (pass_in self) }
     {
         if has {
             self.resolve_present(clear, strict)

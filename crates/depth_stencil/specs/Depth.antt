@@ -2,6 +2,7 @@
 use Rattle.std.proofs.Math.Option.{Option, none, some}
 use Rattle.std.specs.Prelude.{Float}
 use Rattle.definition.specs.Channel.{LoadOp, load_op, clear_op, dont_care, Ops, operational, read_only_ops, PassChannel, Resolved, channel, refused}
+use Rattle.definition.specs.Refusals.{number_of}
 use Rattle.channel.specs.Store.{keep_in, store_in}
 use Rattle.channel.specs.Asked.{asked_channel}
 use Rattle.depth_stencil.specs.declared.depth.DepthLoadOp.{DepthLoadOp}
@@ -33,4 +34,4 @@ ops_in (DR.Operational o) = operational (load_in o.load) (keep_in o.store)
 -- The resolved channel, or the number that refuses it.
 abbrev pub answer_in : DepthAnswer → Resolved Float
 answer_in (DA.Channel c) = channel (ops_in c)
-answer_in (DA.Refused n) = refused n
+answer_in (DA.Refused n) = refused (number_of n)

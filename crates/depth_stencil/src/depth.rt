@@ -13,7 +13,7 @@ ghost use Rattle.depth_stencil.specs.Depth.{load_in, field_in, channel_in, ops_i
 
 use channel::pass::{Answer, Handled, PassChannel};
 use channel::{LoadField, LoadKind, Operations, StoreField, StoreOp, store_field};
-use definition::refusals::{CLEAR_VALUE_OUT_OF_RANGE, DEPTH_OPS_WITHOUT_ASPECT, NO_CLEAR_VALUE};
+use definition::refusals::Refusal;
 use definition::verdicts::{AT_DEPTH_STENCIL, accepted, refused_at};
 use definition::{Channel, Verdict};
 use encoding::f32_of_bits;
@@ -56,11 +56,11 @@ pub enum ResolvedDepth {
     Operational(DepthOps),
 }
 
-// A resolved channel, or the number that refuses it.
+// A resolved channel, or why it is refused.
 #[derive(Clone, Copy)]
 pub enum DepthAnswer {
     Channel(ResolvedDepth),
-    Refused(u32),
+    Refused(Refusal),
 }
 
 // ── operations
@@ -117,10 +117,10 @@ fn handle_clear(is_given: bool, x: f32) -> Handled
         if in_range(x) {
             Handled::Value
         } else {
-            Handled::Refusal(CLEAR_VALUE_OUT_OF_RANGE)
+            Handled::Refusal(Refusal::ClearValueOutOfRange)
         }
     } else {
-        Handled::Refusal(NO_CLEAR_VALUE)
+        Handled::Refusal(Refusal::NoClearValue)
     }
 }
 
@@ -221,7 +221,7 @@ impl DepthChannel {
         let handled = handle_clear(self.given, x);
         with_answer(
             self.asked()
-                .resolve(has, DEPTH_OPS_WITHOUT_ASPECT, handled, strict),
+                .resolve(has, Refusal::DepthOpsWithoutAspect, handled, strict),
             x,
         )
     }

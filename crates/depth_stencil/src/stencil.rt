@@ -13,7 +13,7 @@ ghost use Rattle.depth_stencil.specs.Stencil.{load_in, field_in, channel_in, ops
 
 use channel::pass::{Answer, Handled, PassChannel};
 use channel::{LoadField, LoadKind, Operations, StoreField, StoreOp, store_field};
-use definition::refusals::STENCIL_OPS_WITHOUT_ASPECT;
+use definition::refusals::Refusal;
 use definition::verdicts::{AT_DEPTH_STENCIL, accepted, refused_at};
 use definition::{Channel, Verdict};
 
@@ -55,11 +55,11 @@ pub enum ResolvedStencil {
     Operational(StencilOps),
 }
 
-// A resolved channel, or the number that refuses it.
+// A resolved channel, or why it is refused.
 #[derive(Clone, Copy)]
 pub enum StencilAnswer {
     Channel(ResolvedStencil),
-    Refused(u32),
+    Refused(Refusal),
 }
 
 // ── operations
@@ -214,7 +214,7 @@ impl StencilChannel {
         let x = handle_clear(self.given, self.clear_value());
         with_answer(
             self.asked()
-                .resolve(has, STENCIL_OPS_WITHOUT_ASPECT, Handled::Value, strict),
+                .resolve(has, Refusal::StencilOpsWithoutAspect, Handled::Value, strict),
             x,
         )
     }

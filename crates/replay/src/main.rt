@@ -14,7 +14,7 @@ use desk::{deskcheck_pass, deskcheck_session, deskcheck_submit};
 use encoding::u32_at;
 use session::header::{pass_count, texture_count};
 use session::surfaces::surfaces_before;
-use session::{ends, pass_row};
+use session::pass_row;
 use std::io;
 use streams::read_head;
 
@@ -74,7 +74,7 @@ impl Lent {
         );
         let replied = reply(list, k, &r, rows, &self.clears, &self.discards)?;
         let is_last = k + 1 == pass_count(session);
-        if is_last | (ends(session, pass_row(session, k)) == 1) {
+        if is_last | (pass_row(session, k).ends() == 1) {
             self.submission(session, replied)
         } else {
             words(replied, &[0])
