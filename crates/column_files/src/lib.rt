@@ -26,7 +26,8 @@ fn put_rearranged(way: Way, session: &[u8], out: &mut [u8]) -> usize
 {
     let start = pass_start(session);
     out[..start].copy_from_slice(&session[..start]);
-    rearrange(
+    // A readable session is not refused.
+    let _ = rearrange(
         way,
         pass_count(session),
         &session[start..],

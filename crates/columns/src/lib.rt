@@ -4,6 +4,7 @@
 
 ghost use Rattle.std.specs.Prelude.{◌≡◌, ◌++◌, ◌+◌, ◌*◌, ◌≤◌, length, get_or, take, drop};
 ghost use Rattle.definition.specs.Sizes.{pass_bytes};
+ghost use Rattle.definition.specs.Refusals.{number_in};
 ghost use Rattle.columns.specs.Columns as C;
 ghost use Rattle.columns.specs.Promise.{Rearranged};
 ghost use Rattle.columns.specs.declared.Way.TheVariants as To;
@@ -19,6 +20,7 @@ pub enum Way {
 }
 
 // Where a column stands in the caller's columns, and how many bytes it has. `number` is 0, or 2; then there are none.
+// Not an Option: C reads the three fields (`deskcheck_column`).
 #[repr(C)]
 #[derive(Clone, Copy)]
 pub struct ColumnPlace {
@@ -75,31 +77,38 @@ fn is_part(passes: u32, bytes: usize) -> bool
     (passes <= MAX_PASSES) & (bytes == PASS_BYTES * (passes as usize))
 }
 
-// 0, or 2 for the pass count or the length, then 6 for a target that is too short.
+// 2 for the pass count or the length, then 6 for a target that is too short.
 #[tactic(auto, unfolding(crate::specs::Columns::rearrange_number))]
-fn rearrange_number(passes: u32, bytes: usize, room: usize) -> u32
-    ensures { result ≡ C.rearrange_number passes bytes room }
+fn check_lengths(passes: u32, bytes: usize, room: usize) -> Result<(), Refusal>
+    ensures { number_in result ≡ C.rearrange_number passes bytes room }
 {
     if !is_part(passes, bytes) {
-        return Refusal::InvalidHeader.number();
+        return Err(Refusal::InvalidHeader);
     }
     if room < bytes {
-        return Refusal::InvalidLent.number();
+        return Err(Refusal::InvalidLent);
     }
-    0
+    Ok(())
 }
 
 // The pass part either way.
-pub fn rearrange(way: Way, passes: u32, part: &[u8], target: &mut [u8]) -> u32
-    ensures { Rearranged way passes part.now target.old result target.new }
+pub fn rearrange(way: Way, passes: u32, part: &[u8], target: &mut [u8]) -> Result<(), Refusal>
+    ensures { Rearranged way passes part.now target.old (number_in result) target.new }
 {
-    let number = rearrange_number(passes, part.len(), target.len());
-    if number != 0 {
-        return number;
-    }
+    check_lengths(passes, part.len(), target.len())?;
     let (rows, row_bytes) = way.shape(passes as usize);
     transpose(part, rows, row_bytes, target);
-    0
+    Ok(())
+}
+
+// What C reads: 0, or the number of the refusal.
+fn number(answer: Result<(), Refusal>) -> u32
+    ensures { result ≡ number_in answer }
+{
+    match answer {
+        Ok(()) => 0,
+        Err(refusal) => refusal.number(),
+    }
 }
 
 // The pass part by columns: 0, or 2 for the pass count or the length, then 6 for a target that is too short. The bytes of the
@@ -107,14 +116,14 @@ pub fn rearrange(way: Way, passes: u32, part: &[u8], target: &mut [u8]) -> u32
 pub fn deskcheck_columns(passes: u32, rows: &[u8], columns: &mut [u8]) -> u32
     ensures { Rearranged To.Columns passes rows.now columns.old result columns.new }
 {
-    rearrange(Way::Columns, passes, rows, columns)
+    number(rearrange(Way::Columns, passes, rows, columns))
 }
 
 // The way back.
 pub fn deskcheck_rows(passes: u32, columns: &[u8], rows: &mut [u8]) -> u32
     ensures { Rearranged To.Rows passes columns.now rows.old result rows.new }
 {
-    rearrange(Way::Rows, passes, columns, rows)
+    number(rearrange(Way::Rows, passes, columns, rows))
 }
 
 // Whether so many bytes are the columns of so many passes, and j is one of the 504.
@@ -139,10 +148,9 @@ pub fn deskcheck_column(passes: u32, columns: &[u8], j: u32) -> ColumnPlace
         };
     }
     let n = passes as usize;
-    let first = n * (j as usize);
     ColumnPlace {
         number: 0,
-        first: first,
+        first: n * (j as usize),
         bytes: n,
     }
 }

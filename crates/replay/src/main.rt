@@ -2,11 +2,11 @@
 // has the list's form: records of a session and the words of its answer.
 #![tactic(auto)]
 
-ghost use Rattle.std.specs.Prelude.{◌≡◌, ◌≤◌, ◌<◌, length};
+ghost use Rattle.std.specs.Prelude.{◌≡◌, ◌<◌, ◌≤◌, length, IfSome};
 ghost use Rattle.definition.specs.Sizes.{max_passes};
 ghost use Rattle.replay.specs.Room.{list_bytes};
 
-use answer_words::{Place, WORD_BYTES, numbers, reply, word};
+use answer_words::{WORD_BYTES, numbers, reply, words};
 use definition::sizes::{
     ACTIONS_BYTES, CLEARS_BYTES, DISCARDS_BYTES, MAX_PASSES, MAX_SURFACES, ROWS_BYTES,
 };
@@ -18,145 +18,115 @@ use session::pass_row;
 use std::io;
 use streams::read_head;
 
-// The next words are those of the end of pass k: a submission, if a buffer ends there.
-fn submission(
-    list: &[u8],
-    p: Place,
-    session: &[u8],
-    k: u32,
-    is_last: bool,
-    discards: &mut [u8],
-    actions: &mut [u8],
-    clears: &[u8],
-    status: &mut [u8],
-) -> Place {
-    if !((pass_row(session, k).ends() == 1) | is_last) {
-        return word(list, p, 0);
-    }
-    let number = deskcheck_submit(session, discards, actions, clears, status);
-    let surfaces = surfaces_before(session, texture_count(session)) as u32;
-    let marked = word(list, p, 1);
-    let counted = word(list, marked, surfaces);
-    let q = numbers(
-        list,
-        counted,
-        status,
-        0,
-        (surfaces + WORD_BYTES as u32 - 1) / WORD_BYTES as u32,
-    );
-    Place {
-        at: q.at,
-        same: q.same & (number == 0),
-    }
+// What the calls on one session are lent.
+#[derive(Drop)]
+struct Lent {
+    discards: [u8; DISCARDS_BYTES],
+    actions: [u8; ACTIONS_BYTES],
+    clears: [u8; CLEARS_BYTES],
+    status: [u8; MAX_SURFACES],
 }
 
-// The next words are those of pass k.
-fn pass(
-    list: &[u8],
-    p: Place,
-    session: &[u8],
-    k: u32,
-    is_last: bool,
-    rows: &[u8],
-    discards: &mut [u8],
-    actions: &mut [u8],
-    clears: &mut [u8],
-    status: &mut [u8],
-) -> Place
-    requires { k < max_passes }
-{
-    let r = deskcheck_pass(session, k, discards, actions, clears, status);
-    let q = reply(list, p, k, r, rows, clears, discards);
-    submission(
-        list, q, session, k, is_last, discards, actions, clears, status,
-    )
-}
-
-// The next words are those of the passes from fresh lists.
-fn passes(
-    list: &[u8],
-    p: Place,
-    session: &[u8],
-    rows: &[u8],
-    discards: &mut [u8; DISCARDS_BYTES],
-    actions: &mut [u8; ACTIONS_BYTES],
-    clears: &mut [u8; CLEARS_BYTES],
-    status: &mut [u8; MAX_SURFACES],
-) -> Place {
-    let count = pass_count(session);
-    let mut q = p;
-    let mut k: u32 = 0;
-    while k < MAX_PASSES {
-        if k >= count {
-            return q;
+impl Lent {
+    // Empty lists, and surfaces that nothing wrote.
+    fn fresh() -> Lent {
+        Lent {
+            discards: [0; DISCARDS_BYTES],
+            actions: [0; ACTIONS_BYTES],
+            clears: [0; CLEARS_BYTES],
+            status: [0; MAX_SURFACES],
         }
-        let is_last = k + 1 == count;
-        q = pass(
-            list, q, session, k, is_last, rows, discards, actions, clears, status,
-        );
-        k += 1;
     }
-    q
+
+    // What is left behind the words of a submission.
+    fn submission<'a>(&mut self, session: &[u8], list: &'a [u8]) -> Option<&'a [u8]> {
+        let number = deskcheck_submit(
+            session,
+            &mut self.discards,
+            &mut self.actions,
+            &self.clears,
+            &mut self.status,
+        );
+        if number != 0 {
+            return None;
+        }
+        let surfaces = surfaces_before(session, texture_count(session)) as u32;
+        let counted = words(list, &[1, surfaces])?;
+        numbers(
+            counted,
+            &self.status,
+            0,
+            surfaces.div_ceil(WORD_BYTES as u32),
+        )
+    }
+
+    // What is left behind the words of pass k, and behind those of a submission if a buffer ends there.
+    fn pass<'a>(&mut self, session: &[u8], rows: &[u8], k: u32, list: &'a [u8]) -> Option<&'a [u8]>
+        requires { k < max_passes }
+    {
+        let r = deskcheck_pass(
+            session,
+            k,
+            &mut self.discards,
+            &mut self.actions,
+            &mut self.clears,
+            &self.status,
+        );
+        let replied = reply(list, k, &r, rows, &self.clears, &self.discards)?;
+        let is_last = k + 1 == pass_count(session);
+        if is_last | (pass_row(session, k).ends() == 1) {
+            self.submission(session, replied)
+        } else {
+            words(replied, &[0])
+        }
+    }
 }
 
-// The next words are the answer to a session.
-fn answer(list: &[u8], p: Place, session: &[u8]) -> Place {
+// What is left of a list behind the answer to a session, all passes from fresh lists.
+fn answer<'a>(session: &[u8], list: &'a [u8]) -> Option<&'a [u8]> {
     let mut rows = [0u8; ROWS_BYTES];
     let number = deskcheck_session(session, &mut rows);
-    let q = word(list, p, number);
+    let mut rest = words(list, &[number])?;
     if number != 0 {
-        return q;
+        return Some(rest);
     }
-    let mut discards = [0u8; DISCARDS_BYTES];
-    let mut actions = [0u8; ACTIONS_BYTES];
-    let mut clears = [0u8; CLEARS_BYTES];
-    let mut status = [0u8; MAX_SURFACES];
-    passes(
-        list,
-        q,
-        session,
-        &rows,
-        &mut discards,
-        &mut actions,
-        &mut clears,
-        &mut status,
-    )
+    let mut lent = Lent::fresh();
+    for k in 0..pass_count(session).min(MAX_PASSES) {
+        rest = lent.pass(session, &rows, k, rest)?;
+    }
+    Some(rest)
 }
 
-// The place after the record at a place, and whether its session is answered so. A record that is cut off ends the list.
-fn record(list: &[u8], at: usize) -> Place
-    requires { at < length list.now }
-    ensures { (at < result.at) × (result.at ≤ length list.now) }
+// The part at the front of a list, of as many units of bytes as the number before it says, and what is behind it; none where the list is cut off.
+fn part(list: &[u8], unit: usize) -> Option<(&[u8], &[u8])>
+    requires { unit ≤ 4 }
+    ensures { IfSome result (λ split. length split.1.now < length list.now) }
 {
-    let n = list.len();
-    let cut = Place { at: n, same: false };
-    if n - at < 2 * WORD_BYTES {
-        return cut;
+    if list.len() < WORD_BYTES {
+        return None;
     }
-    let start = at + WORD_BYTES;
-    let bytes = u32_at(list, at) as usize;
-    if n - start - WORD_BYTES < bytes {
-        return cut;
+    let behind = &list[WORD_BYTES..];
+    let bytes = unit * u32_at(list, 0) as usize;
+    if behind.len() < bytes {
+        return None;
     }
-    let end = start + bytes;
-    let first = end + WORD_BYTES;
-    let words = WORD_BYTES * u32_at(list, end) as usize;
-    if n - first < words {
-        return cut;
-    }
-    let last = first + words;
-    let p = answer(
-        list,
-        Place {
-            at: first,
-            same: true,
-        },
-        &list[start..end],
-    );
-    Place {
-        at: last,
-        same: p.same & (p.at == last),
-    }
+    Some(behind.split_at(bytes))
+}
+
+// A session, and the words that the Rust answered.
+#[derive(Clone, Copy)]
+struct Record<'a> {
+    session: &'a [u8],
+    words: &'a [u8],
+}
+
+// The record at the front of a list, and what is behind it; none where the list is cut off.
+fn first_record(list: &[u8]) -> Option<(Record<'_>, &[u8])>
+    ensures { IfSome result (λ split. length split.1.now < length list.now) }
+{
+    let (session, behind) = part(list, 1)?;
+    let (words, rest) = part(behind, WORD_BYTES)?;
+    Some((Record { session, words }, rest))
 }
 
 // Sessions of the list, and how many of them agree.
@@ -166,23 +136,25 @@ struct Tally {
     agree: usize,
 }
 
-// Replays the whole list.
+// Replays the whole list. A record that is cut off ends it, and does not agree.
 fn replay(list: &[u8]) -> Tally {
-    let mut sessions: usize = 0;
-    let mut agree: usize = 0;
-    let mut at: usize = 0;
-    while at < list.len() {
-        let r = record(list, at);
-        at = r.at;
-        sessions += 1;
-        if r.same {
-            agree += 1;
+    let mut tally = Tally {
+        sessions: 0,
+        agree: 0,
+    };
+    let mut rest = list;
+    // Not a `for`: a record's own numbers say how far the next one is.
+    while !rest.is_empty() {
+        tally.sessions += 1;
+        let Some((record, behind)) = first_record(rest) else {
+            break;
+        };
+        if answer(record.session, record.words).is_some_and(|left| left.is_empty()) {
+            tally.agree += 1;
         }
+        rest = behind;
     }
-    Tally {
-        sessions: sessions,
-        agree: agree,
-    }
+    tally
 }
 
 // Bytes that the list fits in.
@@ -199,8 +171,7 @@ fn room() -> [u8; LIST_BYTES]
 fn main(rt: HostRuntime) -> io::Result<()> {
     let mut space = room();
     let n = read_head(&mut rt.stdin(), &mut space)?;
-    let tally = replay(&space[..n]);
-    let (agree, sessions) = (tally.agree, tally.sessions);
+    let Tally { sessions, agree } = replay(&space[..n]);
     println!(rt;
         "sessions with the Rust's answers, made by make-answers of the harness from seed 9020"
     )?;

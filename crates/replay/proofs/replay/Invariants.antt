@@ -1,9 +1,9 @@
 -- Safe: every record has a byte or more, so that there are no more sessions than bytes.
-use Rattle.std.proofs.Common.{◌-◌, ◌≤◌, length}
+use Rattle.std.proofs.Common.{◌+◌, ◌≤◌, length}
 use Rattle.replay.proofs.replay.Given as goal
 
-abbrev pub invariant-loop-at : goal.invariant-loop-at
-invariant-loop-at l = (l.sessions ≤ l.at) × (l.agree ≤ l.sessions) × (l.at ≤ length l.list)
+abbrev pub invariant-loop-rest : goal.invariant-loop-rest
+invariant-loop-rest l = (l.tally.sessions + length l.rest ≤ length l.list) × (l.tally.agree ≤ l.tally.sessions)
 
-abbrev pub decreases-loop-at : goal.decreases-loop-at
-decreases-loop-at l = length l.list - l.at
+abbrev pub decreases-loop-rest : goal.decreases-loop-rest
+decreases-loop-rest l = length l.rest
