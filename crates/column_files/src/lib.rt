@@ -5,16 +5,16 @@
 ghost use Rattle.std.specs.Prelude.{◌≡◌, true, false, List, ℕ, ◌≤◌, length, take, MatchResult, IfOk, IfSome};
 ghost use Rattle.definition.specs.Sizes.{longest_session};
 ghost use Rattle.definition.specs.Readable.{session_refusal};
-ghost use Rattle.report.specs.Held.{Enough, Holds};
+ghost use Rattle.report.specs.Held.{Holds};
 ghost use Rattle.report.specs.Printed.{Printed};
 ghost use Rattle.streams.specs.Answered.{Answered};
 ghost use Rattle.column_files.specs.Files.{rearranged, written, held_written};
 
 use columns::{Way, rearrange};
-use report::print_file;
+use report::{File, print_file};
 use session::header::pass_count;
 use session::pass_start;
-use session_validation::session_refusal;
+use session_validation::validate_session;
 use std::io;
 use std::io::Read;
 use streams::{BUFFER_BYTES, read_file};
@@ -36,18 +36,18 @@ fn put_rearranged(way: Way, session: &[u8], out: &mut [u8]) -> usize
     session.len()
 }
 
-// A file of `bytes` bytes, of which the first are held: the whole file, or more than any session has.
-pub fn write_file(way: Way, head: &[u8], bytes: u64, out: &mut [u8]) -> usize
-    requires enough { Enough (length head.now) bytes }
-    requires room { longest_session ≤ length out.old }
-    ensures printed { Printed out.old (held_written way head.now bytes) out.new result }
-    ensures defined { (file : List ℕ) → Holds head.now bytes file →
-        take result out.new ≡ written way file }
+// What is written for a file, by what is held of it.
+pub fn write_file(way: Way, file: File<'_>, out: &mut [u8]) -> usize
+    requires { longest_session ≤ length out.old }
+    ensures printed { let held = file.entry in
+        Printed out.old (held_written way held.head.now held.bytes) out.new result }
+    ensures defined { let held = file.entry in
+        (whole : List ℕ) → Holds held.head.now held.bytes whole → take result out.new ≡ written way whole }
 {
-    if session_refusal(head) != 0 {
-        return print_file(head, bytes, out);
+    match validate_session(file.head) {
+        Ok(()) => put_rearranged(way, file.head, out),
+        Err(_) => print_file(file, out),
     }
-    put_rearranged(way, head, out)
 }
 
 // What is to be written for the input: its length. Where reading failed there is nothing.
@@ -62,5 +62,5 @@ pub fn answer<R: Read>(way: Way, input: &mut R, out: &mut [u8]) -> io::Result<us
 {
     let mut buffer = [0u8; BUFFER_BYTES];
     let file = read_file(input, &mut buffer)?;
-    Ok(write_file(way, file.head, file.bytes, out))
+    Ok(write_file(way, file, out))
 }

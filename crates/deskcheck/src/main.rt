@@ -26,7 +26,7 @@ fn answer<R: Read>(input: &mut R, out: &mut [u8]) -> io::Result<usize>
 {
     let mut buffer = [0u8; BUFFER_BYTES];
     let file = read_file(input, &mut buffer)?;
-    Ok(print_file(file.head, file.bytes, out))
+    Ok(print_file(file, out))
 }
 
 // Reads standard input, and prints what the definition says of it.

@@ -12,7 +12,7 @@ use Rattle.definition.specs.Bytes.{u32_at}
 use Rattle.definition.specs.Sizes.{total_length_at, longest_session}
 use Rattle.definition.specs.Session.{total_length}
 use Rattle.definition.specs.Readable.{session_refusal}
-use Rattle.laws.proofs.Tests.{cond_off}
+use Rattle.laws.proofs.Tests.{by_order, cond_off}
 use Rattle.report.specs.Text.{refusal_text}
 use Rattle.report.specs.Output.{output}
 use Rattle.report.specs.Oversize.{length_bound, oversize_number}
@@ -34,10 +34,10 @@ field_front n l h =
 module _ {head : List ℕ} {bytes : ℕ} {file : List ℕ} (holds : Holds head bytes file) where
   -- No more than a session may have: they are the file.
   pub held_whole : Enough (length head) bytes → length head ≤ longest_session → head ≡ file
-  held_whole enough few = sym holds.front ∙ take_all (length head) file (⊎_elim (λ e. whole e) (λ m. absurd (omega arith)) enough)
+  held_whole enough few = sym holds.front ∙ take_all (length head) file (⊎_elim (λ n. omega (arith, n, all)) (λ n. absurd (omega (arith, n, all))) holds.counted)
     where
-      whole : length head ≡ bytes → length file ≤ length head
-      whole e = ⊎_elim (λ n. omega arith) (λ n. absurd (omega arith)) holds.counted
+      all : bytes ≤ length head
+      all = by_order bytes (length head) (λ h. h) (λ h. absurd (omega (arith, enough.1 h, few)))
 
   module _ (many : longest_session < length head) where
     -- More: the file is longer than any session, and has their length field.

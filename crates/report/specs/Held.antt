@@ -8,7 +8,7 @@ use Rattle.report.specs.Oversize.{length_bound, oversize_number}
 
 -- `held` bytes are enough of a file of `bytes` bytes: all of them, or more than any session has.
 abbrev pub Enough : ℕ → ℕ → Type 0
-Enough held bytes = (held ≡ bytes) ⊎ ((longest_session < held) × (held ≤ bytes))
+Enough held bytes = (held ≤ bytes) × (held < bytes → longest_session < held)
 
 -- The bytes are the first of a file whose length is told as `bytes`.
 pub record Holds (head : List ℕ) (bytes : ℕ) (file : List ℕ) : Type 0 where

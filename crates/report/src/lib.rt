@@ -1,25 +1,29 @@
 // What `deskcheck` prints for a file, written to the front of a buffer of `PRINTED_BYTES` bytes: a line a pass.
-// In `text` numbers and lines as bytes, in `oversize` the refusal of a file that is longer than any session.
+// In `text` numbers and lines as bytes, in `file` what is held of a file, in `oversize` the refusal of one that is longer than any session.
 #![tactic(auto)]
 
+mod file;
 mod oversize;
 mod text;
 
 ghost use Rattle.std.specs.Prelude.{◌≡◌, List, ℕ, ◌+◌, ◌*◌, ◌≤◌, length, take};
 ghost use Rattle.definition.specs.Session.{session};
 ghost use Rattle.definition.specs.Readable.{session_refusal};
+ghost use Rattle.definition.specs.Refusals.{number_of};
 ghost use Rattle.whole_session.specs.Rows.{first_rows};
 ghost use Rattle.report.specs.Text.{line_bytes, lines_text, printed_bytes, refusal_text, refusal_bytes};
 ghost use Rattle.report.specs.Appended.{Appended};
 ghost use Rattle.report.specs.Output.{output};
-ghost use Rattle.report.specs.Held.{Enough, Holds, held_text};
+ghost use Rattle.report.specs.Held.{Holds, held_text};
 ghost use Rattle.report.specs.Printed.{Printed};
 
+use definition::refusals::Refusal;
 use definition::sizes::{DISCARDS_BYTES, LONGEST_SESSION, MAX_PASSES};
+pub use file::File;
 use oversize::oversize_refusal;
 pub use oversize::past_length_field;
 use session::header::pass_count;
-use session_validation::session_refusal;
+use session_validation::validate_session;
 use text::{LINE_BYTES, Text};
 use whole_session::next_row;
 
@@ -43,29 +47,12 @@ fn push_lines(s: &[u8], passes: u32, text: &mut Text<'_>)
     }
 }
 
-// The line of a refused session.
-fn print_refusal(number: u32, out: &mut [u8]) -> usize
-    requires { printed_bytes ≤ length out.old }
-    ensures printed { Printed out.old (refusal_text number) out.new result }
-    ensures short { result ≤ refusal_bytes }
-{
-    let mut text = Text {
-        buffer: out,
-        end: 0,
-    };
-    text.push_refusal(number);
-    text.end
-}
-
-// A file that the caller holds whole.
-fn print_session(session: &[u8], out: &mut [u8]) -> usize
-    requires { printed_bytes ≤ length out.old }
+// The lines of a readable session.
+fn print_lines(session: &[u8], out: &mut [u8]) -> usize
+    requires readable { session_refusal session.now ≡ 0 }
+    requires room { printed_bytes ≤ length out.old }
     ensures { Printed out.old (output session.now) out.new result }
 {
-    let number = session_refusal(session);
-    if number != 0 {
-        return print_refusal(number, out);
-    }
     let mut text = Text {
         buffer: out,
         end: 0,
@@ -74,16 +61,41 @@ fn print_session(session: &[u8], out: &mut [u8]) -> usize
     text.end
 }
 
-// A file of `bytes` bytes, of which the first are held: the whole file, or more than any session has.
-// The text is told from these for any bytes; of every file that they are of, it is the definition's.
-pub fn print_file(head: &[u8], bytes: u64, out: &mut [u8]) -> usize
-    requires enough { Enough (length head.now) bytes }
-    requires room { printed_bytes ≤ length out.old }
-    ensures printed { Printed out.old (held_text head.now bytes) out.new result }
-    ensures defined { (file : List ℕ) → Holds head.now bytes file → take result out.new ≡ output file }
+// The line of a refused session.
+fn print_refusal(refusal: Refusal, out: &mut [u8]) -> usize
+    requires { printed_bytes ≤ length out.old }
+    ensures printed { Printed out.old (refusal_text (number_of refusal)) out.new result }
+    ensures short { result ≤ refusal_bytes }
 {
-    if head.len() <= LONGEST_SESSION {
-        return print_session(head, out);
+    let mut text = Text {
+        buffer: out,
+        end: 0,
+    };
+    text.push_refusal(refusal.number());
+    text.end
+}
+
+// A file that the caller holds whole.
+fn print_session(session: &[u8], out: &mut [u8]) -> usize
+    requires { printed_bytes ≤ length out.old }
+    ensures { Printed out.old (output session.now) out.new result }
+{
+    match validate_session(session) {
+        Ok(()) => print_lines(session, out),
+        Err(refusal) => print_refusal(refusal, out),
     }
-    print_refusal(oversize_refusal(head, bytes), out)
+}
+
+// The text for what is held of a file. It is told from that alone; of every file that it is of, it is the definition's.
+pub fn print_file(file: File<'_>, out: &mut [u8]) -> usize
+    requires { printed_bytes ≤ length out.old }
+    ensures printed { let held = file.entry in
+        Printed out.old (held_text held.head.now held.bytes) out.new result }
+    ensures defined { let held = file.entry in
+        (whole : List ℕ) → Holds held.head.now held.bytes whole → take result out.new ≡ output whole }
+{
+    if file.head.len() <= LONGEST_SESSION {
+        return print_session(file.head, out);
+    }
+    print_refusal(oversize_refusal(file.head, file.bytes), out)
 }

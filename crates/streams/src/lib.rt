@@ -10,22 +10,15 @@ ghost use Rattle.std.specs.Io.KnownBytes.{Appends, Consumes, IsAtEnd, Keeps};
 ghost use Rattle.std.specs.Process.{exit_status};
 ghost use Rattle.definition.specs.Sizes.{longest_session};
 ghost use Rattle.report.specs.Oversize.{length_bound};
-ghost use Rattle.report.specs.Held.{Enough, Holds};
+ghost use Rattle.report.specs.Held.{Holds};
 
-use report::past_length_field;
+use report::{File, past_length_field};
 use std::io;
 use std::io::{Eprint, Print, Read, Write};
 use std::process::ExitCode;
 
 // Bytes of a buffer that is longer than any session.
 pub const BUFFER_BYTES: usize = 65536;
-
-// What was read: the first bytes of an input of `bytes` bytes.
-#[derive(Clone, Copy)]
-pub struct File<'a> {
-    pub head: &'a [u8],
-    pub bytes: u64,
-}
 
 // One read, into the bytes from a place on. 0 bytes are the end of the input.
 fn read_from<R: Read>(input: &mut R, buf: &mut [u8], at: usize) -> io::Result<usize>
@@ -85,7 +78,6 @@ fn read_rest<R: Read>(input: &mut R, from: u64) -> io::Result<u64>
 // Reads the input: the whole of it into the buffer, or as much as the buffer holds, and the rest is counted.
 pub fn read_file<'a, R: Read>(input: &mut R, buf: &'a mut [u8]) -> io::Result<File<'a>>
     requires { longest_session < length buf.old }
-    ensures ok { IfOk result (λ file. Enough (length file.head.now) file.bytes) }
     ensures known { IfOk result (λ file. IfSome (R.remaining input.old) (λ xs.
         Holds file.head.now file.bytes xs)) }
     ensures err { OnErr result ((bs : List ℕ) × Consumes (R.remaining input.old) (R.remaining input.new) bs) }

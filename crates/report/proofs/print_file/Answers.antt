@@ -12,13 +12,13 @@ use Rattle.report.proofs.Put.{printed_as}
 use Rattle.report.proofs.Held.{held_whole, held_refusal}
 use Rattle.report.proofs.print_file.Goals as goal
 
-pub returns-then-head-le-LONGEST_SESSION : goal.returns-then-head-le-LONGEST_SESSION
+pub returns-then-file-le-LONGEST_SESSION : goal.returns-then-file-le-LONGEST_SESSION
 unfolding held_text
-returns-then-head-le-LONGEST_SESSION c =
+returns-then-file-le-LONGEST_SESSION c =
     let p = c.print_session.ensures in
     record {
-      printed = printed_as (sym (cond_on _ _ _ (le-leb (length c.args.head.now) longest_session (omega arith)))) p;
-      defined = λ file holds. p.front ∙ ap output (held_whole holds c.requires.enough (omega arith));
+      printed = printed_as (sym (cond_on _ _ _ (le-leb (length c.args.file.head.now) longest_session (omega arith)))) p;
+      defined = λ whole holds. p.front ∙ ap output (held_whole holds c.args.file.enough (omega arith));
     }
 
 pub returns : goal.returns
@@ -27,6 +27,6 @@ returns c =
     let told = c.oversize_refusal.ensures in
     let p = printed_as (ap refusal_text told.number) c.print_refusal.ensures.printed in
     record {
-      printed = printed_as (sym (cond_off _ _ _ (lt-leb (length c.args.head.now) longest_session (omega arith)))) p;
-      defined = λ file holds. p.front ∙ held_refusal holds (omega arith) told.below_the_bound;
+      printed = printed_as (sym (cond_off _ _ _ (lt-leb (length c.args.file.head.now) longest_session (omega arith)))) p;
+      defined = λ whole holds. p.front ∙ held_refusal holds (omega arith) told.below_the_bound;
     }
