@@ -1,27 +1,26 @@
 -- What a pass check leaves in the lent bytes, by what refuses it, or as it is checked.
 use mathlib.Core.Path.{◌≡◌, refl, sym, ap, ◌∙◌}
 use mathlib.Core.Logic.{◌≢◌}
-use mathlib.Core.Bool.{true, false}
+use mathlib.Core.Bool.{true}
 use mathlib.Core.List.{List}
 use Prim.Native.Nat.{ℕ, ◌≤◌, ◌<◌}
 use lib.Dec.{ltb}
 use borrow.Author.Tests.{lt-ltb, le-ltb}
 use Rattle.definition.specs.Session.{session}
-use Rattle.definition.specs.Readable.{session_refusal}
 use Rattle.definition.specs.Verdict.{nowhere, refused_at}
 use Rattle.definition.specs.Pass.{refused_pass, check_pass}
 use Rattle.definition.specs.Calls.{pass, Step, lent_valid, pass_call, pass_step}
 use Rattle.laws.proofs.Tests.{cond_on, cond_off}
 use Rattle.laws.proofs.Readable.{tested}
 use Rattle.lists.specs.Lent.{ListBytes, lists_in}
-use Rattle.buffer_validation.specs.Buffers.{Buffers, held_in, too_short}
+use Rattle.buffer_validation.specs.Buffers.{Buffers, held_in}
 use Rattle.buffer_validation.proofs.Lent.{long_of, valid_fits}
 use Rattle.render_pass.specs.declared.Reply.{Reply}
 use Rattle.render_pass.specs.Outcome.{Checkable, Checked}
-use Rattle.desk.specs.Entry.{entry, Opened}
+use Rattle.desk.specs.Entry.{entry, Opened, entry_refusal}
 use Rattle.desk.specs.Reply.{refused_reply, answered}
 use Rattle.desk.specs.Promise.{LengthsStay, PassPromise}
-use Rattle.desk.proofs.Calls.{entry_short, entry_refused, entry_called, entry_not_lent}
+use Rattle.desk.proofs.Calls.{entry_refused, entry_called}
 
 module _ (s : List ℕ) (i : ℕ) (b : Buffers) (r : Reply) where
   -- The entry's step t leaves the state.
@@ -35,24 +34,16 @@ module _ (s : List ℕ) (i : ℕ) (b : Buffers) (r : Reply) where
     status = refl;
   }
 
-  -- A buffer that is too short.
-  pub passed_short : too_short b ≡ true → r ≡ refused_reply 6 → PassPromise s i b r b
-  passed_short h e = stays _ (entry_short s (pass i) b h) refl e
-
-  -- A session that is refused.
-  pub passed_refused : too_short b ≡ false → (n : ℕ) → n ≢ 0 → n ≡ session_refusal s → r ≡ refused_reply n → PassPromise s i b r b
-  passed_refused h n g e er = stays _ (entry_refused s (pass i) b h (λ z. g (e ∙ z))) refl (er ∙ ap refused_reply e)
-
-  -- Number 6 of what is lent.
-  pub passed_not_lent : Opened s b → lent_valid (session s) (held_in b) ≡ false → r ≡ refused_reply 6 → PassPromise s i b r b
-  passed_not_lent o h e = stays _ (entry_not_lent s (pass i) b o h) refl e
+  -- A call that is refused.
+  pub passed_refused : entry_refusal s b ≢ 0 → r ≡ refused_reply (entry_refusal s b) → PassPromise s i b r b
+  passed_refused h e = stays _ (entry_refused s b (pass i) h) refl e
 
   -- A pass number at or past the count.
   pub passed_none : Opened s b → lent_valid (session s) (held_in b) ≡ true → (session s).pass_count ≤ i → r ≡ refused_reply 5 → PassPromise s i b r b
   unfolding pass_call
   passed_none o h past e =
       stays (pass_step (refused_pass (refused_at 5 nowhere) (held_in b).lists) (held_in b))
-      (entry_called s (pass i) b o h ∙ ap (λ p. pass_step p (held_in b)) (cond_off (ltb i (session s).pass_count) _ _ (le-ltb i (session s).pass_count past)))
+      (entry_called s b (pass i) o h ∙ ap (λ p. pass_step p (held_in b)) (cond_off (ltb i (session s).pass_count) _ _ (le-ltb i (session s).pass_count past)))
       refl
       e
 
@@ -61,7 +52,7 @@ module _ (s : List ℕ) (i : ℕ) (b : Buffers) (r : Reply) where
       → Checked (session s) ((session s).pass i) b.lists r l' → LengthsStay b.lists l' → PassPromise s i b r (record { lists = l'; status = b.status })
   unfolding pass_call
   passed_checked l' o h there check lengths =
-      let step : entry s (pass i) b ≡ pass_step (check_pass (session s) ((session s).pass i) (lists_in b.lists)) (held_in b) = entry_called s (pass i) b o h ∙ ap (λ p. pass_step p (held_in b)) (cond_on (ltb i (session s).pass_count) _ _ (lt-ltb i (session s).pass_count there)) in
+      let step : entry s (pass i) b ≡ pass_step (check_pass (session s) ((session s).pass i) (lists_in b.lists)) (held_in b) = entry_called s b (pass i) o h ∙ ap (λ p. pass_step p (held_in b)) (cond_on (ltb i (session s).pass_count) _ _ (lt-ltb i (session s).pass_count there)) in
       record {
         reply = check.reply ∙ ap (λ (t : Step). answered t.answer) (sym step);
         state = (λ j. record { lists = check.lists j; status = b.status }) ∙ ap (λ (t : Step). t.state) (sym step);

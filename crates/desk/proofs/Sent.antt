@@ -1,7 +1,7 @@
 -- What a submission leaves in the lent bytes: everything where it is refused, else no entries and the status bytes that it makes.
 use mathlib.Core.Path.{◌≡◌, refl, sym, ap, ◌∙◌}
 use mathlib.Core.Logic.{◌≢◌}
-use mathlib.Core.Bool.{true, false}
+use mathlib.Core.Bool.{true}
 use mathlib.Core.List.{List, []}
 use Prim.Native.Nat.{ℕ, ◌≤◌}
 use native.Mathlib.Omega.{arith}
@@ -9,19 +9,18 @@ use native.Mathlib.Nat.{le_refl}
 use lib.ListN.{length}
 use Rattle.definition.specs.Sizes.{max_surfaces, surface_bytes, action_bytes}
 use Rattle.definition.specs.Session.{session, surface_count, surfaces_of}
-use Rattle.definition.specs.Readable.{session_refusal}
 use Rattle.definition.specs.Submission.{submit_bytes}
 use Rattle.definition.specs.Calls.{submit, Step, lent_valid}
 use Rattle.session_validation.proofs.Valid.{valid_of}
 use Rattle.lists.specs.Lists.{surface_of, action_of_bytes, surfaces_in, actions_in, CountSet}
 use Rattle.lists.proofs.Lists.{emptied}
-use Rattle.buffer_validation.specs.Buffers.{Buffers, buffers, held_in, too_short}
+use Rattle.buffer_validation.specs.Buffers.{Buffers, buffers, held_in}
 use Rattle.buffer_validation.proofs.Fits.{rows_inside}
 use Rattle.buffer_validation.proofs.Lent.{long_of, status_long, records_inside, valid_fits, valid_surfaces, valid_actions}
 use Rattle.submission.specs.Runs.{Submits}
-use Rattle.desk.specs.Entry.{number_in, entry, Opened}
+use Rattle.desk.specs.Entry.{number_in, entry, Opened, entry_refusal}
 use Rattle.desk.specs.Promise.{SubmitPromise}
-use Rattle.desk.proofs.Calls.{entry_short, entry_refused, entry_called, entry_not_lent}
+use Rattle.desk.proofs.Calls.{entry_refused, entry_called}
 
 -- ── a refusal
 
@@ -39,17 +38,9 @@ module _ (s : List ℕ) (b : Buffers) (n : ℕ) where
     bytes = refl;
   }
 
-  -- A buffer that is too short.
-  pub sent_short : too_short b ≡ true → n ≡ 6 → SubmitPromise s b n b
-  sent_short h e = stays _ (entry_short s submit b h) refl e
-
-  -- A session that is refused.
-  pub sent_refused : too_short b ≡ false → n ≢ 0 → n ≡ session_refusal s → SubmitPromise s b n b
-  sent_refused h g e = stays _ (entry_refused s submit b h (λ z. g (e ∙ z))) refl e
-
-  -- Number 6 of what is lent.
-  pub sent_not_lent : Opened s b → lent_valid (session s) (held_in b) ≡ false → n ≡ 6 → SubmitPromise s b n b
-  sent_not_lent o h e = stays _ (entry_not_lent s submit b o h) refl e
+  -- A call that is refused.
+  pub sent_refused : entry_refusal s b ≢ 0 → n ≡ entry_refusal s b → SubmitPromise s b n b
+  sent_refused h e = stays _ (entry_refused s b submit h) refl e
 
 -- ── a submission
 
@@ -80,7 +71,7 @@ module _ (s d a c b : List ℕ) (opened : Opened s (buffers d a c b)) (lendable 
   sent_all d' a' b' ed ea eb nd na nb =
       let no-discards : surfaces_in d' ≡ [] = (emptied {k = surface_bytes} {decode = surface_of} ed).list in
       let no-actions : actions_in a' ≡ [] = (emptied {k = action_bytes} {decode = action_of_bytes} ea).list in
-      let step = entry_called s submit (buffers d a c b) opened lendable in
+      let step = entry_called s (buffers d a c b) submit opened lendable in
       record {
         number = ap (λ (q : Step). number_in q.answer) (sym step);
         state = (λ q. record { lists = record { discards = no-discards q; actions = no-actions q; clears = surfaces_in c }; status = eb q })

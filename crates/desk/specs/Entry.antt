@@ -4,7 +4,7 @@ use Rattle.definition.specs.Session.{session}
 use Rattle.definition.specs.Readable.{session_refusal}
 use Rattle.definition.specs.Verdict.{nowhere, refused_at}
 use Rattle.definition.specs.Pass.{refusal}
-use Rattle.definition.specs.Calls.{State, Call, pass, submit, Answer, checked, submitted, Step, call}
+use Rattle.definition.specs.Calls.{State, Call, pass, submit, Answer, checked, submitted, Step, lent_valid, call}
 use Rattle.buffer_validation.specs.Buffers.{Buffers, held_in, too_short}
 
 -- Refused as n: everything stays as found.
@@ -28,3 +28,10 @@ entry s k b =
 pub record Opened (s : List ℕ) (b : Buffers) : Type 0 where
   pub long : too_short b ≡ false
   pub readable : session_refusal s ≡ 0
+
+-- What refuses a call before it is judged: 6 for a short buffer, the session's own refusal, 6 for what is lent, or nothing.
+unfoldable pub entry_refusal : List ℕ → Buffers → ℕ
+entry_refusal s b =
+    cond (too_short b) 6
+    (cond (eqb (session_refusal s) 0) (cond (lent_valid (session s) (held_in b)) 0 6)
+    (session_refusal s))

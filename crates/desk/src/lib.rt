@@ -1,6 +1,6 @@
 // The entry points of the desk check, for callers in Rattle, and through desk_c for callers in C and Rust. Each tests its own input and has no
 // `requires`; its contract is one promise (specs/Promise, specs/Whole), which says what the reply means and what the lent lists and status
-// bytes then hold, refused or not.
+// bytes then hold, refused or not. Behind each is a function that gives a result or a refusal, which the entry point turns into numbers.
 // In EntryPoints of specs/ and proofs/: demand 3 of calls of deskcheck_pass and deskcheck_submit, one after the other from fresh buffers.
 #![tactic(auto)]
 
@@ -8,33 +8,55 @@ pub mod index;
 
 ghost use Rattle.std.specs.Prelude.{◌≡◌};
 ghost use Rattle.definition.specs.Readable.{session_refusal};
+ghost use Rattle.definition.specs.Refusals.{number_of, number_in};
 ghost use Rattle.definition.specs.Surfaces.{surface_at};
 ghost use Rattle.buffer_validation.specs.Buffers.{buffers};
-ghost use Rattle.desk.specs.Entry.{Opened};
-ghost use Rattle.desk.specs.Reply.{refused_reply};
+ghost use Rattle.desk.specs.Entry.{entry_refusal};
+ghost use Rattle.desk.specs.Reply.{refused_reply, reply_in};
 ghost use Rattle.desk.specs.Promise.{PassPromise, SubmitPromise};
 ghost use Rattle.desk.specs.Whole.{WholePromise};
-ghost use Rattle.desk.specs.Index.{status_index};
+ghost use Rattle.desk.specs.Index.{index_in, status_index};
 
 use buffer_validation::{is_short, lent_valid, surface_valid};
-use definition::{Surface, Verdict};
+use definition::Surface;
 use definition::refusals::Refusal;
 use definition::sizes::ROWS_BYTES;
-use definition::verdicts::NOWHERE;
+use definition::verdicts::{NOWHERE, refused_at};
 use index::{SurfaceIndex, index_of};
 use lists::set_count;
 use render_pass::{Reply, check_pass, refusal};
 use session::header::pass_count;
 use session::pass_row;
-use session_validation::session_refusal;
+use session_validation::validate_session;
 use submission::submit;
 use whole_session::session_rows;
+
+// 0 for what is accepted, or the refusal's number.
+fn number(answer: Result<(), Refusal>) -> u32
+    ensures { result ≡ number_in answer }
+{
+    match answer {
+        Ok(()) => 0,
+        Err(refusal) => refusal.number(),
+    }
+}
 
 // The session's refusal: 0, or 1 to 4.
 pub fn deskcheck_session_refusal(session: &[u8]) -> u32
     ensures { result ≡ session_refusal session.now }
 {
-    session_refusal(session)
+    number(validate_session(session))
+}
+
+// The index of the status byte of a surface, of a readable session that has it.
+fn status_index(session: &[u8], x: Surface) -> Result<u32, Refusal>
+    ensures { index_in result ≡ status_index session.now x }
+{
+    validate_session(session)?;
+    if !surface_valid(session, x) {
+        return Err(Refusal::InvalidLent);
+    }
+    Ok(index_of(session, x))
 }
 
 // Where the status byte of a surface stands: 1 to 4 for the session, 6 for a surface that it does not have, or 0 and the index.
@@ -47,49 +69,60 @@ pub fn deskcheck_surface_index(
 ) -> SurfaceIndex
     ensures { result ≡ status_index session.now (surface_at texture mip layer slice) }
 {
-    let number = session_refusal(session);
-    if number != 0 {
-        return SurfaceIndex { number, index: 0 };
-    }
     let x = Surface {
         texture,
         mip,
         layer,
         slice,
     };
-    if !surface_valid(session, x) {
-        return SurfaceIndex {
-            number: Refusal::InvalidLent.number(),
+    match status_index(session, x) {
+        Ok(index) => SurfaceIndex { number: 0, index },
+        Err(refusal) => SurfaceIndex {
+            number: refusal.number(),
             index: 0,
-        };
-    }
-    SurfaceIndex {
-        number: 0,
-        index: index_of(session, x),
+        },
     }
 }
 
-// A submission, where the buffers are long enough and the session is readable.
-fn submit_lent(
+// Whether a call can be judged: the buffers are long enough, the session is readable, and what is lent is valid.
+fn opened(
+    session: &[u8],
+    discards: &[u8],
+    actions: &[u8],
+    clears: &[u8],
+    status: &[u8],
+) -> Result<(), Refusal>
+    ensures { let b = buffers discards.now actions.now clears.now status.now in
+        number_in result ≡ entry_refusal session.now b }
+{
+    if is_short(discards, actions, clears, status) {
+        return Err(Refusal::InvalidLent);
+    }
+    validate_session(session)?;
+    if !lent_valid(session, discards, actions, clears, status) {
+        return Err(Refusal::InvalidLent);
+    }
+    Ok(())
+}
+
+// A submission, or its refusal.
+fn submitted(
     session: &[u8],
     discards: &mut [u8],
     actions: &mut [u8],
     clears: &[u8],
     status: &mut [u8],
-) -> u32
-    requires { Opened session.now (buffers discards.old actions.old clears.now status.old) }
+) -> Result<(), Refusal>
     ensures { SubmitPromise session.now
         (buffers discards.old actions.old clears.now status.old)
-        result
+        (number_in result)
         (buffers discards.new actions.new clears.now status.new) }
 {
-    if !lent_valid(session, discards, actions, clears, status) {
-        return Refusal::InvalidLent.number();
-    }
+    opened(session, discards, actions, clears, status)?;
     submit(session, discards, actions, status);
     set_count(discards, 0);
     set_count(actions, 0);
-    0
+    Ok(())
 }
 
 // A submission: 0, or 6 for a buffer that is too short, 1 to 4 for the session, 6 for what is lent. The counts of discards and actions
@@ -106,49 +139,35 @@ pub fn deskcheck_submit(
         result
         (buffers discards.new actions.new clears.now status.new) }
 {
-    if is_short(discards, actions, clears, status) {
-        return Refusal::InvalidLent.number();
-    }
-    let number = session_refusal(session);
-    if number != 0 {
-        return number;
-    }
-    submit_lent(session, discards, actions, clears, status)
+    number(submitted(session, discards, actions, clears, status))
 }
 
-// Refused as n, at no place.
-fn refused(n: u32) -> Reply
-    ensures { result ≡ refused_reply n }
-{
-    refusal(Verdict {
-        number: n,
-        place: NOWHERE,
-        earlier: NOWHERE,
-    })
-}
-
-// A pass check, where the buffers are long enough and the session is readable.
-fn pass_lent(
+// The reply to a pass that is judged, or why none is.
+fn checked(
     session: &[u8],
     i: u32,
     discards: &mut [u8],
     actions: &mut [u8],
     clears: &mut [u8],
     status: &[u8],
-) -> Reply
-    requires { Opened session.now (buffers discards.old actions.old clears.old status.now) }
+) -> Result<Reply, Refusal>
     ensures { PassPromise session.now i
         (buffers discards.old actions.old clears.old status.now)
-        result
+        (reply_in result)
         (buffers discards.new actions.new clears.new status.now) }
 {
-    if !lent_valid(session, discards, actions, clears, status) {
-        return refused(Refusal::InvalidLent.number());
-    }
+    opened(session, discards, actions, clears, status)?;
     if i >= pass_count(session) {
-        return refused(Refusal::InvalidPass.number());
+        return Err(Refusal::InvalidPass);
     }
-    check_pass(&pass_row(session, i), discards, actions, clears)
+    Ok(check_pass(&pass_row(session, i), discards, actions, clears))
+}
+
+// Refused, at no place.
+fn refused(n: Refusal) -> Reply
+    ensures { result ≡ refused_reply (number_of n) }
+{
+    refusal(refused_at(n, NOWHERE))
 }
 
 // The check of pass number i: 6 for a buffer that is too short, 1 to 4 for the session, 6 for what is lent, 5 and 10 to 51 for the pass.
@@ -166,14 +185,22 @@ pub fn deskcheck_pass(
         result
         (buffers discards.new actions.new clears.new status.now) }
 {
-    if is_short(discards, actions, clears, status) {
-        return refused(Refusal::InvalidLent.number());
+    match checked(session, i, discards, actions, clears, status) {
+        Ok(reply) => reply,
+        Err(refusal) => refused(refusal),
     }
-    let number = session_refusal(session);
-    if number != 0 {
-        return refused(number);
+}
+
+// The rows of a readable session, or its refusal.
+fn written(session: &[u8], rows: &mut [u8]) -> Result<(), Refusal>
+    ensures { WholePromise session.now rows.old (number_in result) rows.new }
+{
+    if rows.len() < ROWS_BYTES {
+        return Err(Refusal::InvalidLent);
     }
-    pass_lent(session, i, discards, actions, clears, status)
+    validate_session(session)?;
+    session_rows(session, rows);
+    Ok(())
 }
 
 // The whole session from fresh lists: 6 for rows that are too short, 1 to 4 for the session, or 0. Then every pass has its row, and the
@@ -181,13 +208,5 @@ pub fn deskcheck_pass(
 pub fn deskcheck_session(session: &[u8], rows: &mut [u8]) -> u32
     ensures { WholePromise session.now rows.old result rows.new }
 {
-    if rows.len() < ROWS_BYTES {
-        return Refusal::InvalidLent.number();
-    }
-    let number = session_refusal(session);
-    if number != 0 {
-        return number;
-    }
-    session_rows(session, rows);
-    0
+    number(written(session, rows))
 }

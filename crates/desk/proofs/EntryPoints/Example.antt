@@ -42,7 +42,7 @@ accepted : (i : ℕ) (b b' : Buffers) → Opened example b → lent_valid (sessi
     → held_in b' ≡ (called (session example) (pass i) (held_in b)).state → RestsStay b.lists b'.lists → LengthsStay b.lists b'.lists → b'.status ≡ b.status
     → PassPromise example i b (reply_to i b) b'
 accepted i b b' o h ok left rest lengths status =
-    let step = entry_called example (pass i) b o h in
+    let step = entry_called example b (pass i) o h in
     record {
       reply = ap (λ (q : Step). answered q.answer) (sym step);
       state = left ∙ ap (λ (q : Step). q.state) (sym step);
@@ -102,7 +102,7 @@ module _ (x y z w : List ℕ) where
     submission : SubmitPromise example third 0 last
     unfolding computing surface_of action_of_bytes record_at records too_short
     submission =
-        let step = entry_called example submit third (record { long = long; readable = refl }) refl in
+        let step = entry_called example third submit (record { long = long; readable = refl }) refl in
         record {
           number = ap (λ (q : Step). number_in q.answer) (sym step);
           state = ap (λ (q : Step). q.state) (sym step);

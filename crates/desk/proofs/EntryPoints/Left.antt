@@ -11,5 +11,5 @@ use Rattle.desk.specs.EntryPoints.Run.{Told, of_pass, of_submit, call_of, Promis
 
 module _ (s : List ℕ) where
   pub left_state : (b : Buffers) (t : Told) (b' : Buffers) → Opened s b → Promised s b t b' → held_in b' ≡ (call (session s) (call_of t) (held_in b)).state
-  left_state b (of_pass i r) b' o p = p.state ∙ ap (λ (q : Step). q.state) (entry_call s (pass i) b o)
-  left_state b (of_submit n) b' o p = p.state ∙ ap (λ (q : Step). q.state) (entry_call s submit b o)
+  left_state b (of_pass i r) b' o p = p.state ∙ ap (λ (q : Step). q.state) (entry_call s b (pass i) o)
+  left_state b (of_submit n) b' o p = p.state ∙ ap (λ (q : Step). q.state) (entry_call s b submit o)

@@ -109,6 +109,6 @@ module _ (s : List ℕ) where
   -- What a promise gives a caller to read: what the call answers.
   pub left_read : (b : Buffers) (t : Told) (b' : Buffers) → Opened s b → Promised s b t b' → read_in t b' ≡ (call (session s) (call_of t) (held_in b)).answer
   left_read b (of_pass i r) b' o p =
-      read_pass (session s) i (held_in b) r b' (p.reply ∙ ap (λ (q : Step). answered q.answer) (entry_call s (pass i) b o)) (left_state s b (of_pass i r) b' o p)
+      read_pass (session s) i (held_in b) r b' (p.reply ∙ ap (λ (q : Step). answered q.answer) (entry_call s b (pass i) o)) (left_state s b (of_pass i r) b' o p)
   left_read b (of_submit n) b' o p =
-      read_submit (session s) (held_in b) n b' (p.number ∙ ap (λ (q : Step). number_in q.answer) (entry_call s submit b o)) (left_state s b (of_submit n) b' o p)
+      read_submit (session s) (held_in b) n b' (p.number ∙ ap (λ (q : Step). number_in q.answer) (entry_call s b submit o)) (left_state s b (of_submit n) b' o p)

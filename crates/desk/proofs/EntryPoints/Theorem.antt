@@ -109,7 +109,7 @@ from_fresh s ok b h ts r = follows s ts b (record { long = h.long; readable = ok
 pub never_six_of_calls : NeverSixOfCalls
 never_six_of_calls s ok b h ts r n k =
     let run = from_fresh s ok b h ts r in
-    entry_called s k (buffers_after b ts n) (run.opened n)
+    entry_called s (buffers_after b ts n) k (run.opened n)
     (ap (lent_valid (session s)) (run.states n) ∙ never_six s ok (held_in b) (fresh_held s b h) (take n (calls_of ts)))
 
 pub demand_three_of_calls : DemandThreeOfCalls

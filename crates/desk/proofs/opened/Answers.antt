@@ -1,0 +1,28 @@
+-- Each way out is one clause of the refusal's definition.
+use mathlib.Core.Path.{sym, ◌∙◌}
+use borrow.Author.Tests.{eq-eqb}
+use Rattle.std.proofs.lemmas.Result.{err_from_is_err_and}
+use Rattle.desk.specs.Entry.{entry_refusal}
+use Rattle.desk.proofs.Numbered.{refused_test}
+use Rattle.desk.proofs.opened.Goals as goal
+
+pub returns-then-is_short : goal.returns-then-is_short
+unfolding entry_refusal
+returns-then-is_short c = simp (sym c.is_short.ensures ∙ c.if-is_short.true)
+
+pub returns-in_err-validate_session : goal.returns-in_err-validate_session
+unfolding entry_refusal
+returns-in_err-validate_session c =
+    let told = c.in_err-validate_session in
+    let p = err_from_is_err_and c.from_residual.result c.from_residual.ensures.1 in
+    rw (p.1, p.2) (simp (sym c.is_short.ensures ∙ c.if-is_short.false, refused_test _ _ told.ensures, told.ensures))
+
+pub returns-then-not-lent_valid : goal.returns-then-not-lent_valid
+unfolding entry_refusal
+returns-then-not-lent_valid c =
+    simp (sym c.is_short.ensures ∙ c.if-is_short.false, eq-eqb _ 0 (sym c.in_ok-validate_session.ensures), sym c.lent_valid.ensures ∙ c.if-not-lent_valid.true)
+
+pub returns : goal.returns
+unfolding entry_refusal
+returns c =
+    simp (sym c.is_short.ensures ∙ c.if-is_short.false, eq-eqb _ 0 (sym c.in_ok-validate_session.ensures), sym c.lent_valid.ensures ∙ c.if-not-lent_valid.false)
