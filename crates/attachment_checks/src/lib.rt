@@ -7,15 +7,10 @@ ghost use Rattle.definition.specs.Sizes.{max_slots};
 ghost use Rattle.definition.specs.Session.{session};
 ghost use Rattle.definition.specs.Views as Vw;
 ghost use Rattle.definition.specs.Check as Ck;
-ghost use Rattle.session.specs.Rows.{pass_in};
+ghost use Rattle.session.specs.Rows.{pass_in, session_in};
 ghost use Rattle.view_checks.specs.Taken.{taken_in};
 
-use definition::refusals::{
-    DEPTH_SLICE_LIMIT, DIMENSION_MISMATCH, INVALID_FORMAT, INVALID_RESOLVE_DIMENSION,
-    INVALID_RESOLVE_SAMPLE_COUNTS, INVALID_TRANSIENT_RESOLVE_TARGET, MISMATCHED_RESOLVE_FORMAT,
-    MISSING_DEPTH_SLICE, NOT_RENDERABLE, TOO_MANY_COLOR_BYTES, UNNEEDED_DEPTH_SLICE,
-    UNSUPPORTED_RESOLVE_FORMAT,
-};
+use definition::refusals::Refusal;
 use definition::sizes::MAX_SLOTS;
 use definition::verdicts::{
     AT_DEPTH_STENCIL, accepted, either, is_accepted, then, unless, unless_against,
@@ -24,7 +19,7 @@ use definition::{Progress, Seen, Slot, Verdict, View};
 use formats::{is_color, with_color};
 use session::derived::{depth_of, extent_of, is_d2, is_d2_array, is_d3, is_none, transient};
 use session::header::color_bytes;
-use session::{PassRow, depth_stencil, slot_view, slot_without_clear, view, view_format};
+use session::{PassRow, view, view_format};
 use view_checks::overlap::{check_attachment_overlap, check_resolve_overlap};
 use view_checks::views::{
     add_view, check_multiview, depth_stencil_view, none_seen, renderable, see_view,
@@ -35,23 +30,23 @@ use view_checks::views::{
 fn slice_verdict(s: &[u8], c: Slot, v: View, place: u32) -> Verdict
     ensures { result ≡ Vw.slice_verdict (session s.now) c v place }
 {
-    let given = unless(c.sliced == 1, MISSING_DEPTH_SLICE, place);
-    let inside = unless(c.slice < depth_of(s, v), DEPTH_SLICE_LIMIT, place);
-    let absent = unless(c.sliced == 0, UNNEEDED_DEPTH_SLICE, place);
+    let given = unless(c.sliced == 1, Refusal::MissingDepthSlice, place);
+    let inside = unless(c.slice < depth_of(s, v), Refusal::DepthSliceLimit, place);
+    let absent = unless(c.sliced == 0, Refusal::UnneededDepthSlice, place);
     either(is_d3(v), then(given, inside), absent)
 }
 
 // The colour view v of slot k, of a pass whose colours fit into a sample or not: 30 to 40, 51, 41.
 #[tactic(auto, unfolding(definition::specs::Views::color_view))]
-fn color_view(s: &[u8], pass: PassRow, seen: Seen, fit: bool, c: Slot, v: View, k: u32) -> Verdict
-    ensures { result ≡ Vw.color_view (session s.now) seen fit (taken_in s.now pass k) c v k }
+fn color_view(pass: &PassRow, seen: Seen, fit: bool, c: Slot, v: View, k: u32) -> Verdict
+    ensures { result ≡ Vw.color_view (session_in pass.now) seen fit (taken_in pass.now k) c v k }
 {
-    let layers = check_multiview(s, seen, v, k);
-    let extent = add_view(s, seen, v, k);
-    let format = unless(is_color(v.format), INVALID_FORMAT, k);
-    let slice = slice_verdict(s, c, v, k);
-    let bytes = unless(fit, TOO_MANY_COLOR_BYTES, k);
-    let free = check_attachment_overlap(s, pass, k, v, c.slice, k);
+    let layers = check_multiview(pass.session, seen, v, k);
+    let extent = add_view(pass.session, seen, v, k);
+    let format = unless(is_color(v.format), Refusal::InvalidFormat, k);
+    let slice = slice_verdict(pass.session, c, v, k);
+    let bytes = unless(fit, Refusal::TooManyColorBytes, k);
+    let free = check_attachment_overlap(pass, k, v, c.slice, k);
     then(
         layers,
         then(extent, then(format, then(slice, then(bytes, free)))),
@@ -61,8 +56,7 @@ fn color_view(s: &[u8], pass: PassRow, seen: Seen, fit: bool, c: Slot, v: View, 
 // A resolve target by itself: 30 to 33, 48, 41 and 34. Its colour view v is taken, and so is what the slots before k take.
 #[tactic(auto, unfolding(definition::specs::Views::target_view))]
 fn target_view(
-    s: &[u8],
-    pass: PassRow,
+    pass: &PassRow,
     seen: Seen,
     k: u32,
     v: View,
@@ -70,17 +64,17 @@ fn target_view(
     target: View,
     place: u32,
 ) -> Verdict
-    ensures { let taken = Vw.takes v slice ++ taken_in s.now pass k in
-        result ≡ Vw.target_view (session s.now) seen taken target place }
+    ensures { let taken = Vw.takes v slice ++ taken_in pass.now k in
+        result ≡ Vw.target_view (session_in pass.now) seen taken target place }
 {
-    let layers = check_multiview(s, seen, target, place);
+    let layers = check_multiview(pass.session, seen, target, place);
     let flat = unless(
         is_d2(target) | is_d2_array(target),
-        INVALID_RESOLVE_DIMENSION,
+        Refusal::InvalidResolveDimension,
         place,
     );
-    let free = check_resolve_overlap(s, pass, k, v, slice, target, place);
-    let fit = unless(renderable(target), NOT_RENDERABLE, place);
+    let free = check_resolve_overlap(pass, k, v, slice, target, place);
+    let fit = unless(renderable(target), Refusal::NotRenderable, place);
     then(layers, then(flat, then(free, fit)))
 }
 
@@ -93,26 +87,25 @@ fn target_of(s: &[u8], seen: Seen, v: View, target: View, place: u32) -> Verdict
     let to = extent_of(s, target);
     let extent = unless_against(
         (from.width == to.width) & (from.height == to.height),
-        DIMENSION_MISMATCH,
+        Refusal::DimensionMismatch,
         place,
         seen.last,
     );
     let samples = unless(
         (from.samples != 1) & (to.samples == 1),
-        INVALID_RESOLVE_SAMPLE_COUNTS,
+        Refusal::InvalidResolveSampleCounts,
         place,
     );
-    let format = unless(v.format == target.format, MISMATCHED_RESOLVE_FORMAT, place);
-    let resolvable = unless(target.resolvable == 1, UNSUPPORTED_RESOLVE_FORMAT, place);
-    let kept = unless(!transient(target), INVALID_TRANSIENT_RESOLVE_TARGET, place);
+    let format = unless(v.format == target.format, Refusal::MismatchedResolveFormat, place);
+    let resolvable = unless(target.resolvable == 1, Refusal::UnsupportedResolveFormat, place);
+    let kept = unless(!transient(target), Refusal::InvalidTransientResolveTarget, place);
     then(extent, then(samples, then(format, then(resolvable, kept))))
 }
 
 // The resolve target of slot k, whose colour view is v: 30 to 33, 48, 41, 34, 35, 42 to 45.
 #[tactic(auto, unfolding(definition::specs::Views::resolve_view))]
 fn resolve_view(
-    s: &[u8],
-    pass: PassRow,
+    pass: &PassRow,
     seen: Seen,
     k: u32,
     v: View,
@@ -120,21 +113,21 @@ fn resolve_view(
     target: View,
     place: u32,
 ) -> Verdict
-    ensures { let taken = Vw.takes v slice ++ taken_in s.now pass k in
-        result ≡ Vw.resolve_view (session s.now) seen taken v target place }
+    ensures { let taken = Vw.takes v slice ++ taken_in pass.now k in
+        result ≡ Vw.resolve_view (session_in pass.now) seen taken v target place }
 {
     then(
-        target_view(s, pass, seen, k, v, slice, target, place),
-        target_of(s, seen, v, target, place),
+        target_view(pass, seen, k, v, slice, target, place),
+        target_of(pass.session, seen, v, target, place),
     )
 }
 
 // The depth-stencil view of the pass, where it has one.
 #[tactic(auto, unfolding(definition::specs::Check::depth_stencil_step))]
-pub fn depth_stencil_step(s: &[u8], pass: PassRow) -> Progress
-    ensures { result ≡ Ck.depth_stencil_step (session s.now) (pass_in s.now pass) }
+pub fn depth_stencil_step(pass: &PassRow) -> Progress
+    ensures { result ≡ Ck.depth_stencil_step (session_in pass.now) (pass_in pass.now) }
 {
-    let k = depth_stencil(s, pass);
+    let k = pass.depth_stencil();
     let seen = none_seen();
     if is_none(k) {
         return Progress {
@@ -142,18 +135,18 @@ pub fn depth_stencil_step(s: &[u8], pass: PassRow) -> Progress
             seen: seen,
         };
     }
-    let v = view(s, k);
+    let v = view(pass.session, k);
     Progress {
-        verdict: depth_stencil_view(s, v),
-        seen: see_view(s, seen, v, AT_DEPTH_STENCIL),
+        verdict: depth_stencil_view(pass.session, v),
+        seen: see_view(pass.session, seen, v, AT_DEPTH_STENCIL),
     }
 }
 
 // The resolve target of slot k, whose colour view is v, where it has one.
 #[tactic(auto, unfolding(definition::specs::Check::resolve_step))]
-fn resolve_step(s: &[u8], pass: PassRow, seen: Seen, c: Slot, v: View, k: u32) -> Progress
+fn resolve_step(pass: &PassRow, seen: Seen, c: Slot, v: View, k: u32) -> Progress
     requires { k < max_slots }
-    ensures { result ≡ Ck.resolve_step (session s.now) seen (taken_in s.now pass k) c v k }
+    ensures { result ≡ Ck.resolve_step (session_in pass.now) seen (taken_in pass.now k) c v k }
 {
     if is_none(c.resolve) {
         return Progress {
@@ -162,22 +155,22 @@ fn resolve_step(s: &[u8], pass: PassRow, seen: Seen, c: Slot, v: View, k: u32) -
         };
     }
     let place = MAX_SLOTS + k;
-    let target = view(s, c.resolve);
+    let target = view(pass.session, c.resolve);
     Progress {
-        verdict: resolve_view(s, pass, seen, k, v, c.slice, target, place),
+        verdict: resolve_view(pass, seen, k, v, c.slice, target, place),
         seen: seen,
     }
 }
 
 // The colour view v of slot k, then its resolve target.
 #[tactic(auto, unfolding(definition::specs::Check::color_step))]
-fn color_step(s: &[u8], pass: PassRow, seen: Seen, fit: bool, c: Slot, v: View, k: u32) -> Progress
+fn color_step(pass: &PassRow, seen: Seen, fit: bool, c: Slot, v: View, k: u32) -> Progress
     requires { k < max_slots }
-    ensures { result ≡ Ck.color_step (session s.now) seen fit (taken_in s.now pass k) c v k }
+    ensures { result ≡ Ck.color_step (session_in pass.now) seen fit (taken_in pass.now k) c v k }
 {
-    let color = color_view(s, pass, seen, fit, c, v, k);
+    let color = color_view(pass, seen, fit, c, v, k);
     if is_accepted(color) {
-        return resolve_step(s, pass, see_view(s, seen, v, k), c, v, k);
+        return resolve_step(pass, see_view(pass.session, seen, v, k), c, v, k);
     }
     Progress {
         verdict: color,
@@ -187,30 +180,30 @@ fn color_step(s: &[u8], pass: PassRow, seen: Seen, fit: bool, c: Slot, v: View, 
 
 // Slot k, where it is not empty.
 #[tactic(auto, unfolding(definition::specs::Check::slot_step), using(session::proofs::Rows::without_step))]
-fn slot_step(s: &[u8], pass: PassRow, fit: bool, k: u32, seen: Seen) -> Progress
+fn slot_step(pass: &PassRow, fit: bool, k: u32, seen: Seen) -> Progress
     requires { k < max_slots }
-    ensures { result ≡ Ck.slot_step (session s.now) (pass_in s.now pass) fit k seen }
+    ensures { result ≡ Ck.slot_step (session_in pass.now) (pass_in pass.now) fit k seen }
 {
-    let c = slot_without_clear(s, pass, k);
+    let c = pass.slot_without_clear(k);
     if is_none(c.view) {
         return Progress {
             verdict: accepted(),
             seen: seen,
         };
     }
-    color_step(s, pass, seen, fit, c, view(s, c.view), k)
+    color_step(pass, seen, fit, c, view(pass.session, c.view), k)
 }
 
 // Slot k after a: nothing more once the pass is refused.
 #[tactic(auto, unfolding(definition::specs::Check::next_slot))]
-fn next_slot(s: &[u8], pass: PassRow, fit: bool, k: u32, a: Progress) -> Progress
+fn next_slot(pass: &PassRow, fit: bool, k: u32, a: Progress) -> Progress
     requires { k < max_slots }
-    ensures { result ≡ Ck.next_slot (session s.now) (pass_in s.now pass) fit k a }
+    ensures { result ≡ Ck.next_slot (session_in pass.now) (pass_in pass.now) fit k a }
 {
     let judged = a.verdict;
     if is_accepted(judged) {
         let seen = a.seen;
-        return slot_step(s, pass, fit, k, seen);
+        return slot_step(pass, fit, k, seen);
     }
     a
 }
@@ -223,49 +216,45 @@ fn slots_of(n: u32) -> u32
 }
 
 // The bytes of a sample with slot k more: at most 19.
-fn with_slot(s: &[u8], pass: PassRow, k: u32, bytes: u32) -> u64
-    ensures { (result ≡ Ck.with_slot (session s.now) ((pass_in s.now pass).slot k) bytes)
+fn with_slot(pass: &PassRow, k: u32, bytes: u32) -> u64
+    ensures { (result ≡ Ck.with_slot (session_in pass.now) ((pass_in pass.now).slot k) bytes)
         × (result ≤ bytes + 19) }
 {
-    let v = slot_view(s, pass, k);
+    let v = pass.slot_view(k);
     if is_none(v) {
         return bytes as u64;
     }
-    with_color(bytes, view_format(s, v))
+    with_color(bytes, view_format(pass.session, v))
 }
 
 // The colour bytes of a sample, of the first n slots, and of no more than a pass may have.
-fn sample_bytes(s: &[u8], pass: PassRow, n: u32) -> u32
-    ensures { result ≡ Ck.sample_bytes (session s.now) (pass_in s.now pass) (min n max_slots) }
+fn sample_bytes(pass: &PassRow, n: u32) -> u32
+    ensures { result ≡ Ck.sample_bytes (session_in pass.now) (pass_in pass.now) (min n max_slots) }
 {
     let slots = slots_of(n);
     let mut bytes = 0u32;
-    let mut k = 0u32;
-    while k < slots {
-        bytes = with_slot(s, pass, k, bytes) as u32;
-        k += 1;
+    for k in 0..slots {
+        bytes = with_slot(pass, k, bytes) as u32;
     }
     bytes
 }
 
 // Whether they are within the session's limit.
-pub fn bytes_fit(s: &[u8], pass: PassRow, n: u32) -> bool
-    ensures { let bytes = Ck.sample_bytes (session s.now) (pass_in s.now pass) (min n max_slots) in
-        result ≡ leb bytes (session s.now).color_bytes }
+pub fn bytes_fit(pass: &PassRow, n: u32) -> bool
+    ensures { let bytes = Ck.sample_bytes (session_in pass.now) (pass_in pass.now) (min n max_slots) in
+        result ≡ leb bytes (session_in pass.now).color_bytes }
 {
-    sample_bytes(s, pass, n) <= color_bytes(s)
+    sample_bytes(pass, n) <= color_bytes(pass.session)
 }
 
 // The first n slots, after a. No more are looked at than a pass may have: one of more is refused as 5.
-pub fn slot_steps(s: &[u8], pass: PassRow, fit: bool, a: Progress, n: u32) -> Progress
-    ensures { result ≡ Ck.slot_steps (session s.now) (pass_in s.now pass) fit a (min n max_slots) }
+pub fn slot_steps(pass: &PassRow, fit: bool, a: Progress, n: u32) -> Progress
+    ensures { result ≡ Ck.slot_steps (session_in pass.now) (pass_in pass.now) fit a (min n max_slots) }
 {
     let slots = slots_of(n);
     let mut b = a;
-    let mut k = 0u32;
-    while k < slots {
-        b = next_slot(s, pass, fit, k, b);
-        k += 1;
+    for k in 0..slots {
+        b = next_slot(pass, fit, k, b);
     }
     b
 }

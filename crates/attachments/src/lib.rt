@@ -15,7 +15,7 @@ ghost use Rattle.definition.specs.Pass.{attachment_reply, depth_stencil_usage, d
 ghost use Rattle.definition.specs.declared.Range as Ra;
 ghost use Rattle.channel.specs.Pass.{resolved_in};
 ghost use Rattle.laws.specs.Plans.{plan_of};
-ghost use Rattle.session.specs.Rows.{pass_in};
+ghost use Rattle.session.specs.Rows.{pass_in, session_in};
 ghost use Rattle.memory_init.specs.Plans.{plan_in};
 ghost use Rattle.attachments.specs.Attached.{Present, Absent, PartOf, blank};
 
@@ -32,7 +32,7 @@ use memory_init::{InitKind, Planned};
 use session::derived::{
     is_none, read_only_depth_stencil, slice_range, strict, texture_binding, view_range,
 };
-use session::{PassRow, depth, depth_stencil, stencil, view};
+use session::{PassRow, view};
 
 // The depth-stencil attachment of a pass, if it has one: what it does to the lists, what it replies, which channels it
 // only reads, and the aspect that is cleared after the pass.
@@ -64,17 +64,17 @@ pub fn empty_reply() -> Attachment
 // ── depth-stencil
 
 // The depth channel of a pass, resolved for a format.
-fn depth_ops(s: &[u8], pass: PassRow, format: u32) -> ResolvedPassChannel<f32>
-    ensures { resolved_in result ≡ At.depth_ops (session s.now) (pass_in s.now pass) format }
+fn depth_ops(pass: &PassRow, format: u32) -> ResolvedPassChannel<f32>
+    ensures { resolved_in result ≡ At.depth_ops (session_in pass.now) (pass_in pass.now) format }
 {
-    or_read_only(depth_resolved(has_depth(format), strict(s), depth(s, pass)))
+    or_read_only(depth_resolved(has_depth(format), strict(pass.session), pass.depth()))
 }
 
 // Its stencil channel.
-fn stencil_ops(s: &[u8], pass: PassRow, format: u32) -> ResolvedPassChannel<u32>
-    ensures { resolved_in result ≡ At.stencil_ops (session s.now) (pass_in s.now pass) format }
+fn stencil_ops(pass: &PassRow, format: u32) -> ResolvedPassChannel<u32>
+    ensures { resolved_in result ≡ At.stencil_ops (session_in pass.now) (pass_in pass.now) format }
 {
-    or_read_only(stencil_resolved(has_stencil(format), strict(s), stencil(s, pass)))
+    or_read_only(stencil_resolved(has_stencil(format), strict(pass.session), pass.stencil()))
 }
 
 // The usage of a depth-stencil view v.
@@ -175,21 +175,21 @@ fn no_depth_stencil() -> DepthStencilPart
 }
 
 // The depth-stencil attachment of a pass, with its channels resolved.
-pub fn depth_stencil_part(s: &[u8], pass: PassRow) -> DepthStencilPart
-    ensures { let S = session s.now in
-        PartOf S result (At.depth_stencil_part S (pass_in s.now pass)) }
+pub fn depth_stencil_part(pass: &PassRow) -> DepthStencilPart
+    ensures { let S = session_in pass.now in
+        PartOf S result (At.depth_stencil_part S (pass_in pass.now)) }
 {
-    let k = depth_stencil(s, pass);
+    let k = pass.depth_stencil();
     if is_none(k) {
         return no_depth_stencil();
     }
-    let format = view(s, k).format;
+    let format = view(pass.session, k).format;
     depth_stencil_of(
-        s,
+        pass.session,
         k,
         format,
-        depth_ops(s, pass, format),
-        stencil_ops(s, pass, format),
+        depth_ops(pass, format),
+        stencil_ops(pass, format),
     )
 }
 

@@ -7,7 +7,7 @@ ghost use Rattle.definition.specs.Session.{session, is_none};
 ghost use Rattle.definition.specs.Attachments.{depth_stencil_part, slot_parts};
 ghost use Rattle.attachments.specs.Attached.{PartOf};
 ghost use Rattle.definition.specs.Pass.{attachment_reply};
-ghost use Rattle.session.specs.Rows.{pass_in};
+ghost use Rattle.session.specs.Rows.{pass_in, session_in};
 ghost use Rattle.attachments.specs.Resolved.{listed, PlansOf};
 
 use crate::{
@@ -17,8 +17,8 @@ use crate::{
 use definition::sizes::MAX_ATTACHMENTS;
 use definition::{Attachment, Slot};
 use memory_init::Plans;
+use session::PassRow;
 use session::derived::is_none;
-use session::{PassRow, slot, slot_without_clear};
 
 // The attachments of a reply: the first `count` records.
 #[repr(C)]
@@ -43,11 +43,11 @@ fn resolves(c: Slot) -> bool
 }
 
 // What they do to the lists: the pass's depth-stencil attachment d, then each colour of the first n slots and its resolve target.
-pub fn plans_of(s: &[u8], pass: PassRow, d: DepthStencilPart, n: u32) -> Plans
-    requires part_of { PartOf (session s.now) d (depth_stencil_part (session s.now) (pass_in s.now pass)) }
+pub fn plans_of(pass: &PassRow, d: DepthStencilPart, n: u32) -> Plans
+    requires part_of { PartOf (session_in pass.now) d (depth_stencil_part (session_in pass.now) (pass_in pass.now)) }
     requires n_le_max_slots { n ≤ max_slots }
-    ensures { let S = session s.now in
-        let p = pass_in s.now pass in
+    ensures { let S = session_in pass.now in
+        let p = pass_in pass.now in
         PlansOf (depth_stencil_part S p ++ slot_parts S p n) result }
 {
     let mut planned = [no_plan(); MAX_ATTACHMENTS];
@@ -59,15 +59,15 @@ pub fn plans_of(s: &[u8], pass: PassRow, d: DepthStencilPart, n: u32) -> Plans
     }
     let mut k = 0u32;
     while k < n {
-        let c = slot_without_clear(s, pass, k);
+        let c = pass.slot_without_clear(k);
         if occupied(c) {
             let at = count as usize;
-            planned[at] = color_planned(s, c);
+            planned[at] = color_planned(pass.session, c);
             count += 1;
         }
         if resolves(c) {
             let at = count as usize;
-            planned[at] = resolve_planned(s, c.resolve);
+            planned[at] = resolve_planned(pass.session, c.resolve);
             count += 1;
         }
         k += 1;
@@ -79,11 +79,11 @@ pub fn plans_of(s: &[u8], pass: PassRow, d: DepthStencilPart, n: u32) -> Plans
 }
 
 // What the reply says of them.
-pub fn replies_of(s: &[u8], pass: PassRow, d: DepthStencilPart, n: u32) -> Attachments
-    requires part_of { PartOf (session s.now) d (depth_stencil_part (session s.now) (pass_in s.now pass)) }
+pub fn replies_of(pass: &PassRow, d: DepthStencilPart, n: u32) -> Attachments
+    requires part_of { PartOf (session_in pass.now) d (depth_stencil_part (session_in pass.now) (pass_in pass.now)) }
     requires n_le_max_slots { n ≤ max_slots }
-    ensures { let S = session s.now in
-        let p = pass_in s.now pass in
+    ensures { let S = session_in pass.now in
+        let p = pass_in pass.now in
         result ≡ listed (map (attachment_reply S) (depth_stencil_part S p ++ slot_parts S p n)) }
 {
     let mut records = [empty_reply(); MAX_ATTACHMENTS];
@@ -95,7 +95,7 @@ pub fn replies_of(s: &[u8], pass: PassRow, d: DepthStencilPart, n: u32) -> Attac
     }
     let mut k = 0u32;
     while k < n {
-        let c = slot(s, pass, k);
+        let c = pass.slot(k);
         if occupied(c) {
             let at = count as usize;
             records[at] = color_reply(c);

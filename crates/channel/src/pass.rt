@@ -2,13 +2,12 @@
 ghost use Rattle.std.specs.Prelude.{◌≡◌};
 ghost use Rattle.definition.specs.Channel as Ch;
 ghost use Rattle.definition.specs.Pass.{ops_bits};
+ghost use Rattle.definition.specs.Refusals.{number_of};
 ghost use Rattle.channel.specs.Operations.{store_in, ops_in};
 ghost use Rattle.channel.specs.Pass.{option_in, field_in, channel_in, Handles, resolved_in, answer_in, without_ops};
 
 use crate::{LoadOp, Operations, StoreOp, check_transient_attachment_ops};
-use definition::refusals::{
-    CHANNEL_DONT_CARE, NO_LOAD, NO_STORE, READ_ONLY_WITH_LOAD, READ_ONLY_WITH_STORE,
-};
+use definition::refusals::Refusal;
 use definition::verdicts::{AT_DEPTH_STENCIL, accepted, refused_at, unless};
 use definition::{Channel, Verdict};
 
@@ -27,8 +26,8 @@ pub enum ResolvedPassChannel<V> {
     Operational(Operations<V>),
 }
 
-// A resolved channel, or the number that refuses it.
-pub type Resolved<V> = Result<ResolvedPassChannel<V>, u32>;
+// A resolved channel, or why it is refused.
+pub type Resolved<V> = Result<ResolvedPassChannel<V>, Refusal>;
 
 // ── by the row's numbers
 
@@ -60,46 +59,46 @@ pub fn channel_of<V: Copy>(c: Channel, clear: V) -> PassChannel<Option<V>>
 // ── checked and resolved
 
 impl<V: Copy> PassChannel<Option<V>> {
-    // Of a transient attachment: n where both operations are given and are not Clear or DontCare with Discard,
-    // m where one is absent and the channel is read-only.
+    // Of a transient attachment: `lasting` where both operations are given and are not Clear or DontCare with Discard,
+    // `read_only` where one is absent and the channel is read-only.
     #[tactic(auto, unfolding(definition::specs::Channel::transient_channel))]
-    pub fn check_transient(self, n: u32, m: u32) -> Verdict
-        ensures { result ≡ Ch.transient_channel (channel_in self) n m }
+    pub fn check_transient(self, lasting: Refusal, read_only: Refusal) -> Verdict
+        ensures { result ≡ Ch.transient_channel (channel_in self) (number_of lasting) (number_of read_only) }
     {
         match (self.load_op, self.store_op) {
             (Some(load), Some(store)) => unless(
                 check_transient_attachment_ops(load, store),
-                n,
+                lasting,
                 AT_DEPTH_STENCIL,
             ),
-            _ => unless(!self.read_only, m, AT_DEPTH_STENCIL),
+            _ => unless(!self.read_only, read_only, AT_DEPTH_STENCIL),
         }
     }
 
-    // Read-only, unless it has a load (n) or a store (m).
-    fn without_ops(self, n: u32, m: u32) -> Resolved<V>
-        ensures { answer_in result ≡ without_ops (channel_in self).load (channel_in self).store n m }
+    // Read-only, unless it has a load or a store.
+    fn without_ops(self, with_load: Refusal, with_store: Refusal) -> Resolved<V>
+        ensures { answer_in result ≡ without_ops (channel_in self).load (channel_in self).store (number_of with_load) (number_of with_store) }
     {
         if self.load_op.is_some() {
-            return Err(n);
+            return Err(with_load);
         }
         if self.store_op.is_some() {
-            return Err(m);
+            return Err(with_store);
         }
         Ok(ResolvedPassChannel::ReadOnly)
     }
 
-    // n with an operation: the format lacks the aspect.
-    #[tactic(auto, unfolding(definition::specs::Channel::resolve_absent))]
-    pub fn resolve_absent(self, n: u32) -> Resolved<V>
-        ensures { answer_in result ≡ Ch.resolve_absent (channel_in self) n }
+    // Of an aspect that the format lacks: refused with an operation.
+    #[tactic(auto, using(crate::proofs::Resolve::absent))]
+    pub fn resolve_absent(self, refusal: Refusal) -> Resolved<V>
+        ensures { answer_in result ≡ Ch.resolve_absent (channel_in self) (number_of refusal) }
     {
-        self.without_ops(n, n)
+        self.without_ops(refusal, refusal)
     }
 
     // 18 to 24: a read-only channel has no operations, any other both. A Clear's value is handled.
     #[tactic(auto, unfolding(definition::specs::Channel::resolve))]
-    pub fn resolve<H: Fn(Option<V>) -> Result<V, u32>>(
+    pub fn resolve<H: Fn(Option<V>) -> Result<V, Refusal>>(
         self,
         strict: bool,
         handle_clear: H,
@@ -108,21 +107,21 @@ impl<V: Copy> PassChannel<Option<V>> {
         ensures { (handle : _) → Handles (H.post handle_clear) handle → answer_in result ≡ Ch.resolve handle strict (channel_in self) }
     {
         if self.read_only {
-            return self.without_ops(READ_ONLY_WITH_LOAD, READ_ONLY_WITH_STORE);
+            return self.without_ops(Refusal::ReadOnlyWithLoad, Refusal::ReadOnlyWithStore);
         }
-        let load = match self.load_op.ok_or(NO_LOAD)? {
+        let load = match self.load_op.ok_or(Refusal::NoLoad)? {
             LoadOp::Load => LoadOp::Load,
             LoadOp::Clear(value) => LoadOp::Clear(handle_clear(value)?),
             LoadOp::DontCare => {
                 if strict {
-                    return Err(CHANNEL_DONT_CARE);
+                    return Err(Refusal::ChannelDontCare);
                 }
                 LoadOp::DontCare
             }
         };
         Ok(ResolvedPassChannel::Operational(Operations {
-            load: load,
-            store: self.store_op.ok_or(NO_STORE)?,
+            load,
+            store: self.store_op.ok_or(Refusal::NoStore)?,
         }))
     }
 }
@@ -133,7 +132,7 @@ pub fn verdict_of<V: Copy>(answer: Resolved<V>) -> Verdict
 {
     match answer {
         Ok(_) => accepted(),
-        Err(n) => refused_at(n, AT_DEPTH_STENCIL),
+        Err(refusal) => refused_at(refusal, AT_DEPTH_STENCIL),
     }
 }
 

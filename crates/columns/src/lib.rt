@@ -8,7 +8,7 @@ ghost use Rattle.columns.specs.Columns as C;
 ghost use Rattle.columns.specs.Promise.{Rearranged};
 ghost use Rattle.columns.specs.declared.Way.TheVariants as To;
 
-use definition::refusals::{INVALID_HEADER, INVALID_LENT};
+use definition::refusals::Refusal;
 use definition::sizes::{MAX_PASSES, PASS_BYTES};
 
 // What the pass part is rearranged to.
@@ -102,10 +102,10 @@ fn rearrange_number(passes: u32, bytes: usize, room: usize) -> u32
     ensures { result ≡ C.rearrange_number passes bytes room }
 {
     if !is_part(passes, bytes) {
-        return INVALID_HEADER;
+        return Refusal::InvalidHeader.number();
     }
     if room < bytes {
-        return INVALID_LENT;
+        return Refusal::InvalidLent.number();
     }
     0
 }
@@ -154,7 +154,7 @@ pub fn deskcheck_column(passes: u32, columns: &[u8], j: u32) -> ColumnPlace
 {
     if !has_column(passes, columns.len(), j) {
         return ColumnPlace {
-            number: INVALID_HEADER,
+            number: Refusal::InvalidHeader.number(),
             first: 0,
             bytes: 0,
         };

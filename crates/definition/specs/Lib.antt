@@ -4,6 +4,7 @@ pub mod Formats
 pub mod Surfaces
 pub mod Session
 pub mod Verdict
+pub mod Refusals
 pub mod Readable
 pub mod Channel
 pub mod Views

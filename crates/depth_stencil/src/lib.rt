@@ -8,9 +8,7 @@ ghost use Rattle.channel.specs.Pass.{option_in, channel_in, handled_in, answer_i
 
 use channel::pass::{PassChannel, Resolved, channel_of};
 use definition::Channel;
-use definition::refusals::{
-    CLEAR_VALUE_OUT_OF_RANGE, DEPTH_OPS_WITHOUT_ASPECT, NO_CLEAR_VALUE, STENCIL_OPS_WITHOUT_ASPECT,
-};
+use definition::refusals::Refusal;
 use encoding::f32_of_bits;
 
 // ── depth: an f32, from 0.0 to 1.0
@@ -24,14 +22,14 @@ fn in_range(x: f32) -> bool
 }
 
 // 21 without a clear value, 22 out of range.
-fn handle_depth(clear: Option<f32>) -> Result<f32, u32>
+fn handle_depth(clear: Option<f32>) -> Result<f32, Refusal>
     ensures { handled_in result ≡ Ch.handle_depth (option_in clear) }
 {
-    let x = clear.ok_or(NO_CLEAR_VALUE)?;
+    let x = clear.ok_or(Refusal::NoClearValue)?;
     if in_range(x) {
         Ok(x)
     } else {
-        Err(CLEAR_VALUE_OUT_OF_RANGE)
+        Err(Refusal::ClearValueOutOfRange)
     }
 }
 
@@ -50,14 +48,14 @@ pub fn depth_resolved(has: bool, strict: bool, c: Channel) -> Resolved<f32>
     if has {
         depth_channel(c).resolve(strict, handle_depth)
     } else {
-        depth_channel(c).resolve_absent(DEPTH_OPS_WITHOUT_ASPECT)
+        depth_channel(c).resolve_absent(Refusal::DepthOpsWithoutAspect)
     }
 }
 
 // ── stencil: a u32, of which the low 8 bits count
 
 // The low 8 bits. A clear value that is absent is 0.
-fn handle_stencil(clear: Option<u32>) -> Result<u32, u32>
+fn handle_stencil(clear: Option<u32>) -> Result<u32, Refusal>
     ensures { handled_in result ≡ Ch.handle_stencil (option_in clear) }
 {
     Ok(clear.unwrap_or(0) % 256)
@@ -78,6 +76,6 @@ pub fn stencil_resolved(has: bool, strict: bool, c: Channel) -> Resolved<u32>
     if has {
         stencil_channel(c).resolve(strict, handle_stencil)
     } else {
-        stencil_channel(c).resolve_absent(STENCIL_OPS_WITHOUT_ASPECT)
+        stencil_channel(c).resolve_absent(Refusal::StencilOpsWithoutAspect)
     }
 }

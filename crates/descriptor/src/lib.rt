@@ -5,22 +5,18 @@
 ghost use Rattle.std.specs.Prelude.{◌≡◌};
 ghost use Rattle.definition.specs.Check as Ck;
 ghost use Rattle.definition.specs.Session.{session};
-ghost use Rattle.session.specs.Rows.{pass_in};
+ghost use Rattle.session.specs.Rows.{pass_in, session_in};
 
 use channel::pass::verdict_of;
 use channel::{LoadOp, StoreOp, check_transient_attachment_ops};
-use definition::refusals::{
-    COLOR_DONT_CARE, INVALID_DEPTH_STENCIL_FORMAT, INVALID_TRANSIENT_DEPTH_OPS,
-    INVALID_TRANSIENT_OP, INVALID_TRANSIENT_STENCIL_OPS, READ_ONLY_TRANSIENT_DEPTH,
-    READ_ONLY_TRANSIENT_STENCIL, TOO_MANY,
-};
+use definition::refusals::Refusal;
 use definition::verdicts::{AT_DEPTH_STENCIL, NOWHERE, accepted, either, refused_at, then, unless};
 use definition::{Channel, Slot, Verdict};
 use depth_stencil::{depth_channel, depth_resolved, stencil_channel, stencil_resolved};
 use formats::{has_depth, has_stencil, is_depth_stencil};
 use session::derived::{is_none, strict, transient};
 use session::header::max_colors;
-use session::{PassRow, colors, depth_stencil, slot_without_clear, view};
+use session::{PassRow, view};
 
 // 11 and 12, of slot k.
 #[tactic(auto, unfolding(definition::specs::Check::slot_ops))]
@@ -36,19 +32,22 @@ fn slot_ops(s: &[u8], c: Slot, k: u32) -> Verdict
     let lasting = !transient(view(s, c.view));
     let passing = check_transient_attachment_ops(load, store);
     then(
-        unless(cared, COLOR_DONT_CARE, k),
-        unless(lasting | passing, INVALID_TRANSIENT_OP, k),
+        unless(cared, Refusal::ColorDontCare, k),
+        unless(lasting | passing, Refusal::InvalidTransientOp, k),
     )
 }
 
 // Of the first n slots, in order.
 #[tactic(auto, unfolding(definition::specs::Check::color_ops), using(session::proofs::Rows::without_ops_lem))]
-fn color_ops(s: &[u8], pass: PassRow, n: u32) -> Verdict
-    ensures { result ≡ Ck.color_ops (session s.now) (pass_in s.now pass) n }
+fn color_ops(pass: &PassRow, n: u32) -> Verdict
+    ensures { result ≡ Ck.color_ops (session_in pass.now) (pass_in pass.now) n }
 {
     let mut judged = accepted();
     for k in 0..n {
-        judged = then(judged, slot_ops(s, slot_without_clear(s, pass, k), k));
+        judged = then(
+            judged,
+            slot_ops(pass.session, pass.slot_without_clear(k), k),
+        );
     }
     judged
 }
@@ -68,22 +67,22 @@ fn channel_ops(
     let has_stencil = has_stencil(format);
     let aspects = unless(
         is_depth_stencil(format),
-        INVALID_DEPTH_STENCIL_FORMAT,
+        Refusal::InvalidDepthStencilFormat,
         AT_DEPTH_STENCIL,
     );
     let passing_depth = either(
         transient & has_depth,
         depth_channel(depth).check_transient(
-            INVALID_TRANSIENT_DEPTH_OPS,
-            READ_ONLY_TRANSIENT_DEPTH,
+            Refusal::InvalidTransientDepthOps,
+            Refusal::ReadOnlyTransientDepth,
         ),
         accepted(),
     );
     let passing_stencil = either(
         transient & has_stencil,
         stencil_channel(stencil).check_transient(
-            INVALID_TRANSIENT_STENCIL_OPS,
-            READ_ONLY_TRANSIENT_STENCIL,
+            Refusal::InvalidTransientStencilOps,
+            Refusal::ReadOnlyTransientStencil,
         ),
         accepted(),
     );
@@ -98,30 +97,30 @@ fn channel_ops(
 
 // The same of a pass, where it has a depth-stencil view.
 #[tactic(auto, unfolding(definition::specs::Check::depth_stencil_ops))]
-fn depth_stencil_ops(s: &[u8], pass: PassRow) -> Verdict
-    ensures { result ≡ Ck.depth_stencil_ops (session s.now) (pass_in s.now pass) }
+fn depth_stencil_ops(pass: &PassRow) -> Verdict
+    ensures { result ≡ Ck.depth_stencil_ops (session_in pass.now) (pass_in pass.now) }
 {
-    let k = depth_stencil(s, pass);
+    let k = pass.depth_stencil();
     if is_none(k) {
         return accepted();
     }
-    let v = view(s, k);
+    let v = view(pass.session, k);
     channel_ops(
-        strict(s),
+        strict(pass.session),
         transient(v),
         v.format,
-        session::depth(s, pass),
-        session::stencil(s, pass),
+        pass.depth(),
+        pass.stencil(),
     )
 }
 
 // 10 to 26. A pass of more colours than there may be is not looked at further.
-pub fn fill_arc_desc(s: &[u8], pass: PassRow) -> Verdict
-    ensures { result ≡ Ck.ops_verdict (session s.now) (pass_in s.now pass) }
+pub fn fill_arc_desc(pass: &PassRow) -> Verdict
+    ensures { result ≡ Ck.ops_verdict (session_in pass.now) (pass_in pass.now) }
 {
-    let n = colors(s, pass);
-    if n > max_colors(s) {
-        return refused_at(TOO_MANY, NOWHERE);
+    let n = pass.colors();
+    if n > max_colors(pass.session) {
+        return refused_at(Refusal::TooMany, NOWHERE);
     }
-    then(color_ops(s, pass, n), depth_stencil_ops(s, pass))
+    then(color_ops(pass, n), depth_stencil_ops(pass))
 }

@@ -17,10 +17,10 @@ ghost use Rattle.desk.specs.Whole.{WholePromise};
 ghost use Rattle.desk.specs.Index.{status_index};
 
 use buffer_validation::{is_short, lent_valid, surface_valid};
-use definition::Surface;
-use definition::refusals::{INVALID_LENT, INVALID_PASS};
+use definition::{Surface, Verdict};
+use definition::refusals::Refusal;
 use definition::sizes::ROWS_BYTES;
-use definition::verdicts::{NOWHERE, refused_at};
+use definition::verdicts::NOWHERE;
 use index::{SurfaceIndex, index_of};
 use lists::set_count;
 use render_pass::{Reply, check_pass, refusal};
@@ -59,7 +59,7 @@ pub fn deskcheck_surface_index(
     };
     if !surface_valid(session, x) {
         return SurfaceIndex {
-            number: INVALID_LENT,
+            number: Refusal::InvalidLent.number(),
             index: 0,
         };
     }
@@ -84,7 +84,7 @@ fn submit_lent(
         (buffers discards.new actions.new clears.now status.new) }
 {
     if !lent_valid(session, discards, actions, clears, status) {
-        return INVALID_LENT;
+        return Refusal::InvalidLent.number();
     }
     submit(session, discards, actions, status);
     set_count(discards, 0);
@@ -107,7 +107,7 @@ pub fn deskcheck_submit(
         (buffers discards.new actions.new clears.now status.new) }
 {
     if is_short(discards, actions, clears, status) {
-        return INVALID_LENT;
+        return Refusal::InvalidLent.number();
     }
     let number = session_refusal(session);
     if number != 0 {
@@ -120,7 +120,11 @@ pub fn deskcheck_submit(
 fn refused(n: u32) -> Reply
     ensures { result ≡ refused_reply n }
 {
-    refusal(refused_at(n, NOWHERE))
+    refusal(Verdict {
+        number: n,
+        place: NOWHERE,
+        earlier: NOWHERE,
+    })
 }
 
 // A pass check, where the buffers are long enough and the session is readable.
@@ -139,12 +143,12 @@ fn pass_lent(
         (buffers discards.new actions.new clears.new status.now) }
 {
     if !lent_valid(session, discards, actions, clears, status) {
-        return refused(INVALID_LENT);
+        return refused(Refusal::InvalidLent.number());
     }
     if i >= pass_count(session) {
-        return refused(INVALID_PASS);
+        return refused(Refusal::InvalidPass.number());
     }
-    check_pass(session, pass_row(session, i), discards, actions, clears)
+    check_pass(&pass_row(session, i), discards, actions, clears)
 }
 
 // The check of pass number i: 6 for a buffer that is too short, 1 to 4 for the session, 6 for what is lent, 5 and 10 to 51 for the pass.
@@ -163,7 +167,7 @@ pub fn deskcheck_pass(
         (buffers discards.new actions.new clears.new status.now) }
 {
     if is_short(discards, actions, clears, status) {
-        return refused(INVALID_LENT);
+        return refused(Refusal::InvalidLent.number());
     }
     let number = session_refusal(session);
     if number != 0 {
@@ -178,7 +182,7 @@ pub fn deskcheck_session(session: &[u8], rows: &mut [u8]) -> u32
     ensures { WholePromise session.now rows.old result rows.new }
 {
     if rows.len() < ROWS_BYTES {
-        return INVALID_LENT;
+        return Refusal::InvalidLent.number();
     }
     let number = session_refusal(session);
     if number != 0 {

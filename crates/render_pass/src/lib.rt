@@ -11,14 +11,14 @@ ghost use Rattle.definition.specs.Session.{session};
 ghost use Rattle.definition.specs.Check.{check, view_steps};
 ghost use Rattle.definition.specs.Verdict.{is_accepted};
 ghost use Rattle.definition.specs.Pass as Pass;
-ghost use Rattle.session.specs.Rows.{pass_in};
+ghost use Rattle.session.specs.Rows.{pass_in, session_in};
 ghost use Rattle.lists.specs.Lent.{bytes};
 ghost use Rattle.render_pass.specs.Outcome.{replied, room_by, Checkable, Checked};
 
 use attachment_checks::{bytes_fit, depth_stencil_step, slot_steps};
 use attachments::resolve::{plans_of, replies_of};
 use attachments::{depth_stencil_part, empty_reply};
-use definition::refusals::{INVALID_PASS, TOO_MANY_ACTIONS, TOO_MANY_DISCARDS};
+use definition::refusals::Refusal;
 use definition::sizes::{MAX_ACTIONS, MAX_ATTACHMENTS};
 use definition::verdicts::{NOWHERE, is_accepted, refused_at, then, unless};
 use definition::{Attachment, Progress, Seen, Verdict};
@@ -26,7 +26,7 @@ use descriptor::fill_arc_desc;
 use lists::count;
 use memory_init::tally::{Tally, tally_pass};
 use recording::record_pass;
-use session::{PassRow, mask};
+use session::PassRow;
 use session_validation::pass_valid;
 use view_checks::mask::mask_verdict;
 use view_checks::views::none_seen;
@@ -51,39 +51,39 @@ pub struct Reply {
 }
 
 // 30 to 48 and 51: the depth-stencil view, then each slot, then the mask.
-fn view_steps(s: &[u8], pass: PassRow) -> Progress
-    requires { (pass_in s.now pass).colors ≤ max_slots }
-    ensures { result ≡ view_steps (session s.now) (pass_in s.now pass) }
+fn view_steps(pass: &PassRow) -> Progress
+    requires { (pass_in pass.now).colors ≤ max_slots }
+    ensures { result ≡ view_steps (session_in pass.now) (pass_in pass.now) }
 {
-    let n = session::colors(s, pass);
-    let fit = bytes_fit(s, pass, n);
-    let walked = slot_steps(s, pass, fit, depth_stencil_step(s, pass), n);
+    let n = pass.colors();
+    let fit = bytes_fit(pass, n);
+    let walked = slot_steps(pass, fit, depth_stencil_step(pass), n);
     let judged = walked.verdict;
     let seen = walked.seen;
     Progress {
-        verdict: then(judged, mask_verdict(s, mask(s, pass), seen.layers)),
+        verdict: then(judged, mask_verdict(pass.session, pass.mask(), seen.layers)),
         seen: seen,
     }
 }
 
 // 5, 10 to 48 and 51, and what the views have fixed.
-fn start(s: &[u8], pass: PassRow) -> Progress
-    ensures { result ≡ check (session s.now) (pass_in s.now pass) }
+fn start(pass: &PassRow) -> Progress
+    ensures { result ≡ check (session_in pass.now) (pass_in pass.now) }
 {
-    if !pass_valid(s, pass) {
+    if !pass_valid(pass) {
         return Progress {
-            verdict: refused_at(INVALID_PASS, NOWHERE),
+            verdict: refused_at(Refusal::InvalidPass, NOWHERE),
             seen: none_seen(),
         };
     }
-    let ops = fill_arc_desc(s, pass);
+    let ops = fill_arc_desc(pass);
     if !is_accepted(ops) {
         return Progress {
             verdict: ops,
             seen: none_seen(),
         };
     }
-    view_steps(s, pass)
+    view_steps(pass)
 }
 
 // 49 if a step has no room for its discards, then 50 if the end has none for all actions, of which there are so many.
@@ -92,8 +92,8 @@ fn room_verdict(t: Tally, actions: usize) -> Verdict
     ensures { result ≡ room_by t actions }
 {
     then(
-        unless(t.fits, TOO_MANY_DISCARDS, NOWHERE),
-        unless(actions + t.added <= MAX_ACTIONS, TOO_MANY_ACTIONS, NOWHERE),
+        unless(t.fits, Refusal::TooManyDiscards, NOWHERE),
+        unless(actions + t.added <= MAX_ACTIONS, Refusal::TooManyActions, NOWHERE),
     )
 }
 
@@ -126,31 +126,30 @@ pub fn refusal(v: Verdict) -> Reply
 
 // A pass that 5, 10 to 48 and 51 accept: 49 and 50, then what it leaves in the lists, and its reply.
 fn finish(
-    s: &[u8],
-    pass: PassRow,
+    pass: &PassRow,
     seen: Seen,
     discards: &mut [u8],
     actions: &mut [u8],
     clears: &mut [u8],
 ) -> Reply
-    requires fact { let p = check (session s.now) (pass_in s.now pass) in
+    requires fact { let p = check (session_in pass.now) (pass_in pass.now) in
         (is_accepted p.verdict ≡ true) × (seen ≡ p.seen) }
-    requires checkable { Checkable (session s.now) (bytes discards.old actions.old clears.old) }
-    ensures { Checked (session s.now) (pass_in s.now pass)
+    requires checkable { Checkable (session_in pass.now) (bytes discards.old actions.old clears.old) }
+    ensures { Checked (session_in pass.now) (pass_in pass.now)
         (bytes discards.old actions.old clears.old)
         result
         (bytes discards.new actions.new clears.new) }
 {
-    let d = depth_stencil_part(s, pass);
-    let n = session::colors(s, pass);
-    let plans = plans_of(s, pass, d, n);
+    let d = depth_stencil_part(pass);
+    let n = pass.colors();
+    let plans = plans_of(pass, d, n);
     let t = tally_pass(discards, plans);
     let room = room_verdict(t, count(actions));
     if !is_accepted(room) {
         return refusal(room);
     }
     record_pass(discards, actions, clears, plans, t);
-    let replies = replies_of(s, pass, d, n);
+    let replies = replies_of(pass, d, n);
     let records = replies.records;
     Reply {
         number: 0,
@@ -170,23 +169,22 @@ fn finish(
 
 // One pass check, of a session whose views can be read, on lent lists that are in range.
 pub fn check_pass(
-    s: &[u8],
-    pass: PassRow,
+    pass: &PassRow,
     discards: &mut [u8],
     actions: &mut [u8],
     clears: &mut [u8],
 ) -> Reply
-    requires { Checkable (session s.now) (bytes discards.old actions.old clears.old) }
-    ensures { Checked (session s.now) (pass_in s.now pass)
+    requires { Checkable (session_in pass.now) (bytes discards.old actions.old clears.old) }
+    ensures { Checked (session_in pass.now) (pass_in pass.now)
         (bytes discards.old actions.old clears.old)
         result
         (bytes discards.new actions.new clears.new) }
 {
-    let judged = start(s, pass);
+    let judged = start(pass);
     let verdict = judged.verdict;
     if !is_accepted(verdict) {
         return refusal(verdict);
     }
     let seen = judged.seen;
-    finish(s, pass, seen, discards, actions, clears)
+    finish(pass, seen, discards, actions, clears)
 }

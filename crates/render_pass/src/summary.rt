@@ -4,7 +4,7 @@ ghost use Rattle.std.specs.Prelude.{◌≡◌, true};
 ghost use Rattle.definition.specs.Session.{session};
 ghost use Rattle.definition.specs.Check.{check};
 ghost use Rattle.definition.specs.Verdict.{is_accepted};
-ghost use Rattle.session.specs.Rows.{pass_in};
+ghost use Rattle.session.specs.Rows.{pass_in, session_in};
 ghost use Rattle.render_pass.specs.Summary.{Summarizable, Summarized, refused_summary};
 
 use crate::{room_verdict, start};
@@ -43,19 +43,18 @@ fn refused_summary(v: Verdict, actions: usize) -> PassSummary
 
 // A pass that 5, 10 to 48 and 51 accept: 49 and 50, then the discards that it leaves.
 fn finish_summary(
-    s: &[u8],
-    pass: PassRow,
+    pass: &PassRow,
     seen: Seen,
     discards: &mut [u8],
     actions: usize,
 ) -> PassSummary
-    requires fact { let p = check (session s.now) (pass_in s.now pass) in
+    requires fact { let p = check (session_in pass.now) (pass_in pass.now) in
         (is_accepted p.verdict ≡ true) × (seen ≡ p.seen) }
-    requires summarizable { Summarizable (session s.now) discards.old actions }
-    ensures { Summarized (session s.now) (pass_in s.now pass) discards.old actions result discards.new }
+    requires summarizable { Summarizable (session_in pass.now) discards.old actions }
+    ensures { Summarized (session_in pass.now) (pass_in pass.now) discards.old actions result discards.new }
 {
-    let d = depth_stencil_part(s, pass);
-    let plans = plans_of(s, pass, d, session::colors(s, pass));
+    let d = depth_stencil_part(pass);
+    let plans = plans_of(pass, d, pass.colors());
     let t = tally_pass(discards, plans);
     let room = room_verdict(t, actions);
     if !is_accepted(room) {
@@ -73,15 +72,15 @@ fn finish_summary(
 }
 
 // The check of a pass of a session whose views can be read, from these discards and so many actions.
-pub fn summarize(s: &[u8], pass: PassRow, discards: &mut [u8], actions: usize) -> PassSummary
-    requires { Summarizable (session s.now) discards.old actions }
-    ensures { Summarized (session s.now) (pass_in s.now pass) discards.old actions result discards.new }
+pub fn summarize(pass: &PassRow, discards: &mut [u8], actions: usize) -> PassSummary
+    requires { Summarizable (session_in pass.now) discards.old actions }
+    ensures { Summarized (session_in pass.now) (pass_in pass.now) discards.old actions result discards.new }
 {
-    let judged = start(s, pass);
+    let judged = start(pass);
     let verdict = judged.verdict;
     if !is_accepted(verdict) {
         return refused_summary(verdict, actions);
     }
     let seen = judged.seen;
-    finish_summary(s, pass, seen, discards, actions)
+    finish_summary(pass, seen, discards, actions)
 }

@@ -14,7 +14,7 @@ use desk::{deskcheck_pass, deskcheck_session, deskcheck_submit};
 use encoding::u32_at;
 use session::header::{pass_count, texture_count};
 use session::surfaces::surfaces_before;
-use session::{ends, pass_row};
+use session::pass_row;
 use std::io;
 use streams::read_head;
 
@@ -30,7 +30,7 @@ fn submission(
     clears: &[u8],
     status: &mut [u8],
 ) -> Place {
-    if !((ends(session, pass_row(session, k)) == 1) | is_last) {
+    if !((pass_row(session, k).ends() == 1) | is_last) {
         return word(list, p, 0);
     }
     let number = deskcheck_submit(session, discards, actions, clears, status);

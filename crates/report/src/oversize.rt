@@ -4,7 +4,7 @@ ghost use Rattle.std.specs.Prelude.{◌≡◌, ◌<◌, leb};
 ghost use Rattle.definition.specs.Session as Se;
 ghost use Rattle.report.specs.Oversize.{length_bound, oversize_number};
 
-use definition::refusals::{INVALID_HEADER, WRONG_LENGTH};
+use definition::refusals::Refusal;
 use definition::sizes::TOTAL_LENGTH_AT;
 use encoding::u32_at;
 
@@ -24,8 +24,8 @@ pub fn oversize_refusal(head: &[u8], bytes: u64) -> u32
     ensures head_in_bounds { Se.total_length head.now < length_bound }
 {
     if u32_at(head, TOTAL_LENGTH_AT) as u64 == bytes {
-        INVALID_HEADER
+        Refusal::InvalidHeader.number()
     } else {
-        WRONG_LENGTH
+        Refusal::WrongLength.number()
     }
 }

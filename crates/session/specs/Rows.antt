@@ -1,7 +1,7 @@
 -- Texture rows, view rows by the textures before them, pass rows by what stands before them, and a slot without its clear value.
 use Rattle.std.specs.Prelude.{ℕ, ◌+◌, ◌*◌, ◌≤◌, List, length}
 use Rattle.definition.specs.Sizes.{header_bytes, texture_bytes, view_bytes, pass_bytes, slot_start, slot_bytes}
-use Rattle.definition.specs.Session.{Pass, view_at, pass_at}
+use Rattle.definition.specs.Session.{Pass, Session, session, view_at, pass_at}
 use Rattle.definition.specs.Pass.{black}
 use Rattle.definition.specs.declared.Texture.{Texture}
 use Rattle.definition.specs.declared.Slot.{Slot}
@@ -73,8 +73,12 @@ abbrev pub slot_row : PassRow → ℕ → ℕ
 slot_row p k = pass_row p + slot_start + slot_bytes * k
 
 -- The pass of a row.
-unfoldable pub pass_in : List ℕ → PassRow → Pass
-pass_in s p = pass_at s (pass_row p)
+unfoldable pub pass_in : PassRow → Pass
+pass_in p = pass_at p.session.now (pass_row p)
+
+-- The session that it is of.
+abbrev pub session_in : PassRow → Session
+session_in p = session p.session.now
 
 -- A slot without its clear value.
 abbrev pub without_clear : Slot → Slot

@@ -10,7 +10,7 @@ pub mod surfaces;
 ghost use Rattle.std.specs.Prelude.{◌≡◌, ◌+◌, ◌*◌, ◌≤◌};
 ghost use Rattle.definition.specs.Session as Se;
 ghost use Rattle.definition.specs.Session.{session};
-ghost use Rattle.session.specs.Rows.{RowsInside, ViewsInside, texture_of, view_of, view_row, view_after, shape_of, pass_row, pass_in, slot_row, without_clear};
+ghost use Rattle.session.specs.Rows.{RowsInside, ViewsInside, texture_of, view_of, view_row, view_after, shape_of, pass_row, pass_in, session_in, slot_row, without_clear};
 
 use definition::sizes::{
     HEADER_BYTES, PASS_BYTES, SLOT_BYTES, SLOT_START, TEXTURE_BYTES, VIEW_BYTES,
@@ -19,9 +19,10 @@ use definition::{Channel, Color, Slot, Texture, View, black};
 use encoding::{Eight, eight_at, eight_inside, f64_of_halves, u32_at, u32_inside};
 use header::{TEXTURE_COUNT, VIEW_COUNT, texture_count, view_count};
 
-// A pass, by where its row stands: after so many textures, views and passes.
+// A pass row of a session: the file, and where the row stands in it, after so many textures, views and passes.
 #[derive(Clone, Copy)]
-pub struct PassRow {
+pub struct PassRow<'a> {
+    pub session: &'a [u8],
     pub textures: u32,
     pub views: u32,
     pub passes: u32,
@@ -149,87 +150,17 @@ pub fn view(s: &[u8], k: u32) -> View
 }
 
 // The row of the session's pass k.
-pub fn pass_row(s: &[u8], k: u32) -> PassRow
-    ensures { pass_in s.now result ≡ (session s.now).pass k }
+#[tactic(auto, unfolding(crate::specs::Rows::pass_in, definition::specs::Session::session))]
+pub fn pass_row(s: &[u8], k: u32) -> PassRow<'_>
+    ensures session { session_in result ≡ session s.now }
+    ensures pass { pass_in result ≡ (session s.now).pass k }
 {
     PassRow {
+        session: s,
         textures: texture_count(s),
         views: view_count(s),
         passes: k,
     }
-}
-
-// Where a pass row starts.
-fn pass_at(pass: PassRow) -> usize
-    ensures { (result ≡ pass_row pass) × (result ≤ 10000000000000) }
-{
-    HEADER_BYTES
-        + TEXTURE_BYTES * (pass.textures as usize)
-        + VIEW_BYTES * (pass.views as usize)
-        + PASS_BYTES * (pass.passes as usize)
-}
-
-// The colour count of a pass row.
-pub fn colors(s: &[u8], pass: PassRow) -> u32
-    ensures { result ≡ (pass_in s.now pass).colors }
-{
-    u32_at(s, pass_at(pass))
-}
-
-// Its multiview mask.
-pub fn mask(s: &[u8], pass: PassRow) -> u32
-    ensures { result ≡ (pass_in s.now pass).mask }
-{
-    u32_at(s, pass_at(pass) + MASK)
-}
-
-// Its ends-buffer field.
-pub fn ends(s: &[u8], pass: PassRow) -> u32
-    ensures { result ≡ (pass_in s.now pass).ends }
-{
-    u32_at(s, pass_at(pass) + ENDS)
-}
-
-// Its depth-stencil view.
-pub fn depth_stencil(s: &[u8], pass: PassRow) -> u32
-    ensures { result ≡ (pass_in s.now pass).depth_stencil }
-{
-    u32_at(s, pass_at(pass) + DEPTH_STENCIL)
-}
-
-// The channel that stands at a field of a pass row: the first five of eight numbers.
-fn channel_at(s: &[u8], pass: PassRow, field: u32) -> Channel
-    ensures { result ≡ Se.channel_at s.now (pass_row pass + field) }
-{
-    let row = eight_at(s, pass_at(pass) + (field as usize));
-    Channel {
-        load: row.n0,
-        store: row.n1,
-        readonly: row.n2,
-        given: row.n3,
-        clear: row.n4,
-    }
-}
-
-// The depth channel of a pass row.
-pub fn depth(s: &[u8], pass: PassRow) -> Channel
-    ensures { result ≡ (pass_in s.now pass).depth }
-{
-    channel_at(s, pass, DEPTH)
-}
-
-// The stencil channel of a pass row.
-pub fn stencil(s: &[u8], pass: PassRow) -> Channel
-    ensures { result ≡ (pass_in s.now pass).stencil }
-{
-    channel_at(s, pass, STENCIL)
-}
-
-// Where slot k of a pass row starts.
-fn slot_at(pass: PassRow, k: u32) -> usize
-    ensures { (result ≡ slot_row pass k) × (result ≤ 20000000000000) }
-{
-    pass_at(pass) + SLOT_START + SLOT_BYTES * (k as usize)
 }
 
 // The four numbers of a colour, from a place on.
@@ -245,42 +176,126 @@ fn color_at(s: &[u8], at: usize) -> Color
     }
 }
 
-// Slot k of a pass row: the first six of eight numbers, and the clear value.
-pub fn slot(s: &[u8], pass: PassRow, k: u32) -> Slot
-    ensures { result ≡ (pass_in s.now pass).slot k }
-{
-    let at = slot_at(pass, k);
-    let row = eight_at(s, at);
-    Slot {
-        view: row.n0,
-        sliced: row.n1,
-        slice: row.n2,
-        resolve: row.n3,
-        load: row.n4,
-        store: row.n5,
-        clear: color_at(s, at + SLOT_CLEAR),
+impl PassRow<'_> {
+    // Where it starts.
+    fn at(&self) -> usize
+        ensures { (result ≡ pass_row self.now) × (result ≤ 10000000000000) }
+    {
+        HEADER_BYTES
+            + TEXTURE_BYTES * (self.textures as usize)
+            + VIEW_BYTES * (self.views as usize)
+            + PASS_BYTES * (self.passes as usize)
     }
-}
 
-// The view of slot k.
-pub fn slot_view(s: &[u8], pass: PassRow, k: u32) -> u32
-    ensures { result ≡ ((pass_in s.now pass).slot k).view }
-{
-    u32_at(s, slot_at(pass, k))
-}
+    // Its colour count.
+    #[tactic(auto, unfolding(crate::specs::Rows::pass_in))]
+    pub fn colors(&self) -> u32
+        ensures { result ≡ (pass_in self.now).colors }
+    {
+        u32_at(self.session, self.at())
+    }
 
-// Slot k without its clear value, which only a reply has.
-pub fn slot_without_clear(s: &[u8], pass: PassRow, k: u32) -> Slot
-    ensures { result ≡ without_clear ((pass_in s.now pass).slot k) }
-{
-    let row = eight_at(s, slot_at(pass, k));
-    Slot {
-        view: row.n0,
-        sliced: row.n1,
-        slice: row.n2,
-        resolve: row.n3,
-        load: row.n4,
-        store: row.n5,
-        clear: black(),
+    // Its multiview mask.
+    #[tactic(auto, unfolding(crate::specs::Rows::pass_in))]
+    pub fn mask(&self) -> u32
+        ensures { result ≡ (pass_in self.now).mask }
+    {
+        u32_at(self.session, self.at() + MASK)
+    }
+
+    // Its ends-buffer field.
+    #[tactic(auto, unfolding(crate::specs::Rows::pass_in))]
+    pub fn ends(&self) -> u32
+        ensures { result ≡ (pass_in self.now).ends }
+    {
+        u32_at(self.session, self.at() + ENDS)
+    }
+
+    // Its depth-stencil view.
+    #[tactic(auto, unfolding(crate::specs::Rows::pass_in))]
+    pub fn depth_stencil(&self) -> u32
+        ensures { result ≡ (pass_in self.now).depth_stencil }
+    {
+        u32_at(self.session, self.at() + DEPTH_STENCIL)
+    }
+
+    // The channel that stands at a field: the first five of eight numbers.
+    fn channel_at(&self, field: u32) -> Channel
+        ensures { result ≡ Se.channel_at self.now.session.now (pass_row self.now + field) }
+    {
+        let row = eight_at(self.session, self.at() + (field as usize));
+        Channel {
+            load: row.n0,
+            store: row.n1,
+            readonly: row.n2,
+            given: row.n3,
+            clear: row.n4,
+        }
+    }
+
+    // Its depth channel.
+    #[tactic(auto, unfolding(crate::specs::Rows::pass_in))]
+    pub fn depth(&self) -> Channel
+        ensures { result ≡ (pass_in self.now).depth }
+    {
+        self.channel_at(DEPTH)
+    }
+
+    // Its stencil channel.
+    #[tactic(auto, unfolding(crate::specs::Rows::pass_in))]
+    pub fn stencil(&self) -> Channel
+        ensures { result ≡ (pass_in self.now).stencil }
+    {
+        self.channel_at(STENCIL)
+    }
+
+    // Where slot k starts.
+    fn slot_at(&self, k: u32) -> usize
+        ensures { (result ≡ slot_row self.now k) × (result ≤ 20000000000000) }
+    {
+        self.at() + SLOT_START + SLOT_BYTES * (k as usize)
+    }
+
+    // Slot k: the first six of eight numbers, and the clear value.
+    #[tactic(auto, unfolding(crate::specs::Rows::pass_in))]
+    pub fn slot(&self, k: u32) -> Slot
+        ensures { result ≡ (pass_in self.now).slot k }
+    {
+        let at = self.slot_at(k);
+        let row = eight_at(self.session, at);
+        Slot {
+            view: row.n0,
+            sliced: row.n1,
+            slice: row.n2,
+            resolve: row.n3,
+            load: row.n4,
+            store: row.n5,
+            clear: color_at(self.session, at + SLOT_CLEAR),
+        }
+    }
+
+    // The view of slot k.
+    #[tactic(auto, unfolding(crate::specs::Rows::pass_in))]
+    pub fn slot_view(&self, k: u32) -> u32
+        ensures { result ≡ ((pass_in self.now).slot k).view }
+    {
+        u32_at(self.session, self.slot_at(k))
+    }
+
+    // Slot k without its clear value, which only a reply has.
+    #[tactic(auto, unfolding(crate::specs::Rows::pass_in))]
+    pub fn slot_without_clear(&self, k: u32) -> Slot
+        ensures { result ≡ without_clear ((pass_in self.now).slot k) }
+    {
+        let row = eight_at(self.session, self.slot_at(k));
+        Slot {
+            view: row.n0,
+            sliced: row.n1,
+            slice: row.n2,
+            resolve: row.n3,
+            load: row.n4,
+            store: row.n5,
+            clear: black(),
+        }
     }
 }

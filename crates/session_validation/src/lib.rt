@@ -6,10 +6,11 @@ ghost use Rattle.std.specs.Prelude.{◌≡◌};
 ghost use Rattle.definition.specs.Session as Se;
 ghost use Rattle.definition.specs.Session.{session};
 ghost use Rattle.definition.specs.Readable as Re;
-ghost use Rattle.session.specs.Rows.{RowsInside, ViewsInside, pass_in};
+ghost use Rattle.definition.specs.Refusals.{number_in};
+ghost use Rattle.session.specs.Rows.{RowsInside, ViewsInside, pass_in, session_in};
 ghost use Rattle.session_validation.specs.Tests.{format_valid, layers_for};
 
-use definition::refusals::{INVALID_HEADER, INVALID_TEXTURE, INVALID_VIEW, WRONG_LENGTH};
+use definition::refusals::Refusal;
 use definition::sizes::{
     HEADER_BYTES, MAX_COLOR_BYTES, MAX_FLAGS, MAX_LAYERS, MAX_MIPS, MAX_MULTIVIEWS, MAX_PASSES,
     MAX_SIZE, MAX_SLOTS, MAX_SURFACES, MAX_TEXTURES, MAX_USAGE, MAX_VIEWS, PASS_BYTES,
@@ -24,10 +25,7 @@ use session::header::{
     pass_count, texture_count, view_count,
 };
 use session::surfaces::{is_part, surfaces_in};
-use session::{
-    PassRow, colors, depth, depth_stencil, ends, pass_start, slot_without_clear, stencil,
-    texture_inside, view_inside, view_start,
-};
+use session::{PassRow, pass_start, texture_inside, view_inside, view_start};
 
 // The numbers of samples that a texture may have, each by its bit: 1, 2, 4, 8 and 16.
 const SAMPLES: u32 = 0x1_0116;
@@ -108,14 +106,12 @@ fn textures_valid(s: &[u8], n: u32) -> bool
     ensures { result ≡ Re.textures_valid (session s.now) }
 {
     let mut sum = 0u64;
-    let mut k = 0u32;
-    while k < n {
+    for k in 0..n {
         let t = texture_inside(s, k);
         if !texture_valid(t) {
             return false;
         }
         sum += surfaces_in(t);
-        k += 1;
     }
     sum <= MAX_SURFACES as u64
 }
@@ -188,9 +184,7 @@ fn first_views_valid(s: &[u8], textures: u32, n: u32) -> bool
     requires { (textures ≡ (session s.now).texture_count) × ViewsInside textures n s.now }
     ensures { result ≡ Re.first_views_valid (session s.now) n }
 {
-    let mut k = n;
-    while k > 0 {
-        k -= 1;
+    for k in (0..n).rev() {
         if !view_valid(s, textures, view_inside(s, textures, k)) {
             return false;
         }
@@ -198,24 +192,34 @@ fn first_views_valid(s: &[u8], textures: u32, n: u32) -> bool
     true
 }
 
-// The session's refusal: 1 to 4, or 0 for none. A table is read only where the header is valid, so the time is bounded.
-pub fn session_refusal(s: &[u8]) -> u32
-    ensures { result ≡ Re.session_refusal s.now }
+// Whether the session can be read: 1 to 4. A table is read only where the header is valid, so the time is bounded.
+pub fn validate_session(s: &[u8]) -> Result<(), Refusal>
+    ensures { number_in result ≡ Re.session_refusal s.now }
 {
     if !length_valid(s) {
-        return WRONG_LENGTH;
+        return Err(Refusal::WrongLength);
     }
     if !header_valid(s) {
-        return INVALID_HEADER;
+        return Err(Refusal::InvalidHeader);
     }
     let textures = texture_count(s);
     if !textures_valid(s, textures) {
-        return INVALID_TEXTURE;
+        return Err(Refusal::InvalidTexture);
     }
     if !first_views_valid(s, textures, view_count(s)) {
-        return INVALID_VIEW;
+        return Err(Refusal::InvalidView);
     }
-    0
+    Ok(())
+}
+
+// The number of its refusal: 1 to 4, or 0 for none.
+pub fn session_refusal(s: &[u8]) -> u32
+    ensures { result ≡ Re.session_refusal s.now }
+{
+    match validate_session(s) {
+        Ok(()) => 0,
+        Err(refusal) => refusal.number(),
+    }
 }
 
 // Whether a channel's fields have such values.
@@ -226,14 +230,14 @@ fn channel_reads(c: Channel) -> bool
 }
 
 // Whether the depth-stencil part of a pass row can be read. The rest of an empty part is not examined.
-fn depth_stencil_reads(s: &[u8], pass: PassRow) -> bool
-    ensures { result ≡ Re.depth_stencil_reads (session s.now) (pass_in s.now pass) }
+fn depth_stencil_reads(pass: &PassRow) -> bool
+    ensures { result ≡ Re.depth_stencil_reads (session_in pass.now) (pass_in pass.now) }
 {
-    let v = depth_stencil(s, pass);
+    let v = pass.depth_stencil();
     if is_none(v) {
         return true;
     }
-    (v < view_count(s)) & channel_reads(depth(s, pass)) & channel_reads(stencil(s, pass))
+    (v < view_count(pass.session)) & channel_reads(pass.depth()) & channel_reads(pass.stencil())
 }
 
 // Whether a slot's resolve view is none, or a view's number.
@@ -256,25 +260,23 @@ fn slot_reads(s: &[u8], c: Slot) -> bool
 }
 
 // Whether each of the first n slots of a pass row can be read.
-fn slots_read(s: &[u8], pass: PassRow, n: u32) -> bool
-    ensures { result ≡ Re.slots_read (session s.now) (pass_in s.now pass) n }
+fn slots_read(pass: &PassRow, n: u32) -> bool
+    ensures { result ≡ Re.slots_read (session_in pass.now) (pass_in pass.now) n }
 {
     let mut all = true;
-    let mut k = 0u32;
-    while k < n {
-        all = all & slot_reads(s, slot_without_clear(s, pass, k));
-        k += 1;
+    for k in 0..n {
+        all = all & slot_reads(pass.session, pass.slot_without_clear(k));
     }
     all
 }
 
 // 5: whether a pass row can be read. Slots from the colour count on are not examined.
-pub fn pass_valid(s: &[u8], pass: PassRow) -> bool
-    ensures { result ≡ Re.pass_valid (session s.now) (pass_in s.now pass) }
+pub fn pass_valid(pass: &PassRow) -> bool
+    ensures { result ≡ Re.pass_valid (session_in pass.now) (pass_in pass.now) }
 {
-    let n = colors(s, pass);
+    let n = pass.colors();
     if n > MAX_SLOTS {
         return false;
     }
-    (ends(s, pass) <= 1) & depth_stencil_reads(s, pass) & slots_read(s, pass, n)
+    (pass.ends() <= 1) & depth_stencil_reads(pass) & slots_read(pass, n)
 }

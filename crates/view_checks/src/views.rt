@@ -4,10 +4,7 @@ ghost use Rattle.std.specs.Prelude.{◌≡◌};
 ghost use Rattle.definition.specs.Session.{session};
 ghost use Rattle.definition.specs.Views as Vw;
 
-use definition::refusals::{
-    DIMENSION_MISMATCH, MISSING_MULTIVIEW, MULTIVIEW_DIMENSION_MISMATCH, MULTIVIEW_MISMATCH,
-    NOT_RENDERABLE, SAMPLE_COUNT_MISMATCH, TOO_MANY_MULTIVIEW_VIEWS,
-};
+use definition::refusals::Refusal;
 use definition::verdicts::{
     AT_DEPTH_STENCIL, NOWHERE, accepted, either, then, unless, unless_against,
 };
@@ -55,15 +52,15 @@ pub fn check_multiview(s: &[u8], seen: Seen, v: View, place: u32) -> Verdict
     ensures { result ≡ Vw.multiview_verdict (session s.now) seen v place }
 {
     let first = is_first(seen);
-    let matching = unless(v.layers == seen.layers, MULTIVIEW_MISMATCH, place);
+    let matching = unless(v.layers == seen.layers, Refusal::MultiviewMismatch, place);
     if one_layer(v) {
         return either(first, accepted(), matching);
     }
-    let array = unless(is_d2_array(v), MULTIVIEW_DIMENSION_MISMATCH, place);
-    let feature = unless(multiview(s), MISSING_MULTIVIEW, place);
+    let array = unless(is_d2_array(v), Refusal::MultiviewDimensionMismatch, place);
+    let feature = unless(multiview(s), Refusal::MissingMultiview, place);
     let most = unless(
         v.layers <= max_multiview(s),
-        TOO_MANY_MULTIVIEW_VIEWS,
+        Refusal::TooManyMultiviewViews,
         place,
     );
     then(array, either(first, then(feature, most), matching))
@@ -78,11 +75,11 @@ pub fn add_view(s: &[u8], seen: Seen, v: View, place: u32) -> Verdict
     let e = extent_of(s, v);
     let same_extent = (e.width == seen.width) & (e.height == seen.height);
     let same_samples = e.samples == seen.samples;
-    let target = unless(renderable(v), NOT_RENDERABLE, place);
-    let extent = unless_against(first | same_extent, DIMENSION_MISMATCH, place, seen.last);
+    let target = unless(renderable(v), Refusal::NotRenderable, place);
+    let extent = unless_against(first | same_extent, Refusal::DimensionMismatch, place, seen.last);
     let samples = unless_against(
         first | same_samples,
-        SAMPLE_COUNT_MISMATCH,
+        Refusal::SampleCountMismatch,
         place,
         seen.last,
     );

@@ -17,7 +17,7 @@ use definition::sizes::{DISCARDS_BYTES, ROW_BYTES, ROW_NUMBERS};
 use lists::{count, set_count};
 use render_pass::summary::summarize;
 use session::header::pass_count;
-use session::{PassRow, ends, pass_row};
+use session::{PassRow, pass_row};
 use words::write_numbers;
 
 // The row of a pass, and how many actions there are before the next one.
@@ -28,11 +28,11 @@ pub struct Row {
 }
 
 // Whether a buffer ends at a pass, number k of so many: by its flag, or as the last.
-fn ends_buffer(s: &[u8], pass: PassRow, k: u32, passes: u32) -> bool
+fn ends_buffer(pass: &PassRow, k: u32, passes: u32) -> bool
     requires { k < passes }
-    ensures { result ≡ ends_buffer (pass_in s.now pass) (passes - (k + 1)) }
+    ensures { result ≡ ends_buffer (pass_in pass.now) (passes - (k + 1)) }
 {
-    (ends(s, pass) == 1) | (k + 1 == passes)
+    (pass.ends() == 1) | (k + 1 == passes)
 }
 
 // The row of pass k of so many of a readable session; the discards and the actions are then those from which the next pass starts.
@@ -42,7 +42,7 @@ pub fn next_row(s: &[u8], k: u32, passes: u32, discards: &mut [u8], actions: usi
     ensures { Advances (session s.now) passes k result discards.new }
 {
     let pass = pass_row(s, k);
-    let said = summarize(s, pass, discards, actions);
+    let said = summarize(&pass, discards, actions);
     let v = said.verdict;
     let numbers: [u32; ROW_NUMBERS] = [
         k,
@@ -55,7 +55,7 @@ pub fn next_row(s: &[u8], k: u32, passes: u32, discards: &mut [u8], actions: usi
         said.clears as u32,
         count(discards) as u32,
     ];
-    if !ends_buffer(s, pass, k, passes) {
+    if !ends_buffer(&pass, k, passes) {
         return Row {
             numbers: numbers,
             actions: said.actions,

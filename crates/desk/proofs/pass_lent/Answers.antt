@@ -16,10 +16,11 @@ returns-then-i-pass_count c =
 pub check_pass-requires : goal.check_pass-requires
 check_pass-requires c =
     let a = c.args in
-    valid_checkable _ (buffers a.discards.now a.actions.now a.clears.now a.status.now) c.requires (sym c.lent_valid.ensures ∙ c.if-not-lent_valid.false)
+    rw c.pass_row.ensures.session
+    (valid_checkable _ (buffers a.discards.now a.actions.now a.clears.now a.status.now) c.requires (sym c.lent_valid.ensures ∙ c.if-not-lent_valid.false))
 
 pub returns : goal.returns
 returns c =
     passed_checked _ _ _ _ _ c.requires (sym c.lent_valid.ensures ∙ c.if-not-lent_valid.false) (omega (arith, c.if-i-pass_count.false, c.pass_count.ensures))
-    (simp c.pass_row.ensures at c.check_pass.ensures)
+    (simp (c.pass_row.ensures.session, c.pass_row.ensures.pass) at c.check_pass.ensures)
     (record { discards = c.check_pass.auto.discards; actions = c.check_pass.auto.actions; clears = c.check_pass.auto.clears })

@@ -5,10 +5,10 @@ use native.Mathlib.Omega.{arith}
 use Prim.Native.Nat.{◌+◌, ◌≤◌, ◌<◌}
 use mathlib.Core.List.{append-nil}
 use Rattle.definition.specs.Sizes.{max_attachments}
-use Rattle.definition.specs.Session.{session, is_none, slice_range}
+use Rattle.definition.specs.Session.{is_none, slice_range}
 use Rattle.definition.specs.Attachments.{depth_stencil_part, slot_parts, color_of, resolve_to}
 use Rattle.laws.specs.Plans.{plan_of}
-use Rattle.session.specs.Rows.{pass_in}
+use Rattle.session.specs.Rows.{pass_in, session_in}
 use Rattle.memory_init.specs.Plans.{plan_in}
 use Rattle.attachments.proofs.Effects.{without_plan}
 use Rattle.attachments.proofs.Resolving.{PutColor, PutTarget, put, kept, put_count, first_present, first_absent, slot_turn, all_planned}
@@ -17,11 +17,11 @@ use Rattle.attachments.proofs.resolve.plans_of.Goals.{then-d, else-d, then-occup
 
 -- The colour of a slot that is not empty.
 colored : (c : goal.Joined-resolves)
-    → PutColor plan_in plan_of (session c.args.s.now) ((pass_in c.args.s.now c.args.pass).slot c.loop-k.k) c.loop-k.planned c.loop-k.count c.if-occupied.planned c.if-occupied.count
+    → PutColor plan_in plan_of (session_in c.args.pass.now) ((pass_in c.args.pass.now).slot c.loop-k.k) c.loop-k.planned c.loop-k.count c.if-occupied.planned c.if-occupied.count
 colored c =
     let row = c.slot_without_clear-c.ensures in
-    let S = session c.args.s.now in
-    let slot = (pass_in c.args.s.now c.args.pass).slot c.loop-k.k in
+    let S = session_in c.args.pass.now in
+    let slot = (pass_in c.args.pass.now).slot c.loop-k.k in
     let told = sym (ap (λ q. not (is_none q.view)) row) ∙ sym c.occupied.ensures in
     elim c.if-occupied.branch [
       | then-occupied w ↦ put _ (told ∙ w.if-occupied.true) (w.color_planned.ensures ∙ ap (λ q. plan_of (color_of S q)) row ∙ without_plan S slot) w.planned-is w.count-is
@@ -30,10 +30,10 @@ colored c =
 
 -- Its resolve target, where it has one.
 resolved : (c : goal.Joined-resolves)
-    → PutTarget plan_in plan_of (session c.args.s.now) ((pass_in c.args.s.now c.args.pass).slot c.loop-k.k) c.if-occupied.planned c.if-occupied.count c.if-resolves.planned c.if-resolves.count
+    → PutTarget plan_in plan_of (session_in c.args.pass.now) ((pass_in c.args.pass.now).slot c.loop-k.k) c.if-occupied.planned c.if-occupied.count c.if-resolves.planned c.if-resolves.count
 resolved c =
     let row = c.slot_without_clear-c.ensures in
-    let S = session c.args.s.now in
+    let S = session_in c.args.pass.now in
     let told = sym (ap (λ q. not (is_none q.view) && not (is_none q.resolve)) row) ∙ sym c.resolves.ensures in
     elim c.if-resolves.branch [
       | then-resolves w ↦ put _ (told ∙ w.if-resolves.true) (w.resolve_planned.ensures ∙ ap (λ q. plan_of (resolve_to q.resolve (slice_range (S.view q.resolve) 0))) row) w.planned-is w.count-is
@@ -63,8 +63,8 @@ loop-k-preserved c = (
 
 pub returns : goal.returns
 returns c =
-    let S = session c.args.s.now in
-    let p = pass_in c.args.s.now c.args.pass in
+    let S = session_in c.args.pass.now in
+    let p = pass_in c.args.pass.now in
     let e : c.loop-k.k ≡ c.args.n = omega (arith, c.loop-k.invariant.3, c.loop-k-test.false) in
     let few : c.loop-k.count ≤ max_attachments = omega (arith, c.loop-k.invariant.1, c.loop-k.invariant.2, c.requires.n_le_max_slots) in
     simp e at (all_planned few (c.loop-k.invariant.0 _ _ (elim c.if-d.branch [

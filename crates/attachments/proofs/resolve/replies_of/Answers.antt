@@ -5,20 +5,20 @@ use native.Mathlib.Omega.{arith}
 use Prim.Native.Nat.{◌+◌, ◌≤◌, ◌<◌}
 use mathlib.Core.List.{append-nil}
 use Rattle.definition.specs.Sizes.{max_attachments}
-use Rattle.definition.specs.Session.{session, is_none, slice_range}
+use Rattle.definition.specs.Session.{is_none, slice_range}
 use Rattle.definition.specs.Attachments.{depth_stencil_part, slot_parts, color_of, resolve_to}
 use Rattle.definition.specs.Pass.{attachment_reply}
-use Rattle.session.specs.Rows.{pass_in}
+use Rattle.session.specs.Rows.{pass_in, session_in}
 use Rattle.attachments.proofs.Resolving.{PutColor, PutTarget, put, kept, put_count, first_present, first_absent, slot_turn, all_replied}
 use Rattle.attachments.proofs.resolve.replies_of.Goals as goal
 use Rattle.attachments.proofs.resolve.replies_of.Goals.{then-d, else-d, then-occupied, else-occupied, then-resolves, else-resolves}
 
 -- The colour of a slot that is not empty.
 colored : (c : goal.Joined-resolves)
-    → PutColor (λ a. a) (attachment_reply (session c.args.s.now)) (session c.args.s.now) ((pass_in c.args.s.now c.args.pass).slot c.loop-k.k) c.loop-k.records c.loop-k.count c.if-occupied.records c.if-occupied.count
+    → PutColor (λ a. a) (attachment_reply (session_in c.args.pass.now)) (session_in c.args.pass.now) ((pass_in c.args.pass.now).slot c.loop-k.k) c.loop-k.records c.loop-k.count c.if-occupied.records c.if-occupied.count
 colored c =
     let row = c.slot-c.ensures in
-    let S = session c.args.s.now in
+    let S = session_in c.args.pass.now in
     let told = sym (ap (λ q. not (is_none q.view)) row) ∙ sym c.occupied.ensures in
     elim c.if-occupied.branch [
       | then-occupied w ↦ put _ (told ∙ w.if-occupied.true) (w.color_reply.ensures S ∙ ap (λ q. attachment_reply S (color_of S q)) row) w.records-is w.count-is
@@ -27,10 +27,10 @@ colored c =
 
 -- Its resolve target, where it has one.
 resolved : (c : goal.Joined-resolves)
-    → PutTarget (λ a. a) (attachment_reply (session c.args.s.now)) (session c.args.s.now) ((pass_in c.args.s.now c.args.pass).slot c.loop-k.k) c.if-occupied.records c.if-occupied.count c.if-resolves.records c.if-resolves.count
+    → PutTarget (λ a. a) (attachment_reply (session_in c.args.pass.now)) (session_in c.args.pass.now) ((pass_in c.args.pass.now).slot c.loop-k.k) c.if-occupied.records c.if-occupied.count c.if-resolves.records c.if-resolves.count
 resolved c =
     let row = c.slot-c.ensures in
-    let S = session c.args.s.now in
+    let S = session_in c.args.pass.now in
     let told = sym (ap (λ q. not (is_none q.view) && not (is_none q.resolve)) row) ∙ sym c.resolves.ensures in
     elim c.if-resolves.branch [
       | then-resolves w ↦ put _ (told ∙ w.if-resolves.true) (w.resolve_reply.ensures S (slice_range (S.view c.slot-c.result.resolve) 0) ∙ ap (λ q. attachment_reply S (resolve_to q.resolve (slice_range (S.view q.resolve) 0))) row) w.records-is w.count-is
@@ -60,8 +60,8 @@ loop-k-preserved c = (
 
 pub returns : goal.returns
 returns c =
-    let S = session c.args.s.now in
-    let p = pass_in c.args.s.now c.args.pass in
+    let S = session_in c.args.pass.now in
+    let p = pass_in c.args.pass.now in
     let e : c.loop-k.k ≡ c.args.n = omega (arith, c.loop-k.invariant.3, c.loop-k-test.false) in
     let few : c.loop-k.count ≤ max_attachments = omega (arith, c.loop-k.invariant.1, c.loop-k.invariant.2, c.requires.n_le_max_slots) in
     simp e at (all_replied (attachment_reply S) few (c.loop-k.invariant.0 _ _ (elim c.if-d.branch [
