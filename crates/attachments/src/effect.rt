@@ -2,10 +2,11 @@
 // Every function is total, and its contract is an equation with the definition, under the translations of specs/.
 ghost use Rattle.std.specs.Prelude.{◌≡◌, cond, not, false};
 ghost use Rattle.std.proofs.Math.Option.{some};
+ghost use Rattle.definition.specs.Attachments.{by_depth};
 ghost use Rattle.channel.specs.Operations.{ops_in};
 ghost use Rattle.channel.specs.Pass.{resolved_in};
 ghost use Rattle.memory_init.specs.Plans.{init_kind};
-ghost use Rattle.attachments.specs.Effect.{kind_by, has_effect, regular_effect, by_first, diverged_effect, depth_stencil_effect, usage_by};
+ghost use Rattle.attachments.specs.Effect.{kind_by, has_effect, regular_effect, diverged_effect, depth_stencil_effect, usage_by};
 ghost use Rattle.definition.specs.declared.MemoryInitKind.TheVariants.{ImplicitlyInitialized};
 
 use channel::Operations;
@@ -89,7 +90,7 @@ pub fn resolve_effect() -> Effect
 
 // Whether the depth channel decides for both: the format has no stencil, or both load and store alike.
 fn by_depth(has_stencil: bool, depth: Operations<f32>, stencil: Operations<u32>) -> bool
-    ensures { result ≡ by_first has_stencil (ops_in depth) (ops_in stencil) }
+    ensures { result ≡ by_depth has_stencil (ops_in depth) (ops_in stencil) }
 {
     let alike = stencil.load.eq_variant(depth.load) & (stencil.store == depth.store);
     (!has_stencil) | alike
