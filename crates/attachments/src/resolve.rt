@@ -17,8 +17,8 @@ use crate::{
 use definition::sizes::MAX_ATTACHMENTS;
 use definition::{Attachment, Slot};
 use memory_init::Plans;
-use session::derived::is_none;
 use session::PassRow;
+use session::derived::is_none;
 
 // The attachments of a reply: the first `count` records.
 #[repr(C)]

@@ -5,7 +5,7 @@ use native.Mathlib.Omega.{arith}
 use Prim.Native.Nat.{◌+◌, ◌≤◌, ◌<◌}
 use mathlib.Core.List.{append-nil}
 use Rattle.definition.specs.Sizes.{max_attachments}
-use Rattle.definition.specs.Session.{session, is_none, slice_range}
+use Rattle.definition.specs.Session.{is_none, slice_range}
 use Rattle.definition.specs.Attachments.{depth_stencil_part, slot_parts, color_of, resolve_to}
 use Rattle.laws.specs.Plans.{plan_of}
 use Rattle.session.specs.Rows.{pass_in, session_in}
