@@ -1,6 +1,6 @@
 -- The depth-stencil attachment of a pass by whether its view is none, and what the reply asks of the first attachment.
 use Prim.Native.Nat.{ℕ, zero, suc}
-use mathlib.Core.Path.{◌≡◌, refl, sym, ap, subst, ◌∙◌}
+use mathlib.Core.Path.{◌≡◌, refl, sym, ap, ◌∙◌}
 use mathlib.Core.Bool.{Bool, true, false}
 use mathlib.Core.List.{List, [], ◌∷◌, ◌++◌}
 use lib.Ieee.{Float}
@@ -13,23 +13,21 @@ use Rattle.definition.specs.declared.Range.{Range}
 use Rattle.definition.specs.declared.Color.{Color}
 use Rattle.definition.specs.declared.Slot.{Slot}
 use Rattle.attachments.specs.declared.DepthStencilPart.{DepthStencilPart}
-use Rattle.attachments.specs.Attached.{Present, Absent, PartOf, none, one}
+use Rattle.attachments.specs.Attached.{PartOf, is_depth_read_only, is_stencil_read_only, divergent_in}
+use Rattle.std.specs.Prelude as code
+use Rattle.std.specs.Prelude.{None, Some}
 
 -- ── the part of a pass
 
-pub part_absent : (S : Session) (p : Pass) (d : DepthStencilPart) (k : ℕ) → k ≡ p.depth_stencil → is_none k ≡ true → Absent d → PartOf S d (depth_stencil_part S p)
+pub part_absent : (S : Session) (p : Pass) (k : ℕ) → k ≡ p.depth_stencil → is_none k ≡ true → depth_stencil_part S p ≡ []
 unfolding depth_stencil_part
-part_absent S p d k e h a =
-    let nil : depth_stencil_part S p ≡ [] = simp (sym e, h) in
-    subst (PartOf S d) (sym nil) (none a)
+part_absent S p k e h = simp (sym e, h)
 
-pub part_present : (S : Session) (p : Pass) (d : DepthStencilPart) (k f : ℕ) (depth : Ops Float) (stencil : Ops ℕ)
+pub part_present : (S : Session) (p : Pass) (k f : ℕ) (depth : Ops Float) (stencil : Ops ℕ)
     → k ≡ p.depth_stencil → is_none k ≡ false → f ≡ format_of (S.view k) → depth ≡ depth_ops S p f → stencil ≡ stencil_ops S p f
-    → Present S d (depth_stencil k (view_range (S.view k)) (has_depth f) (has_stencil f) depth stencil) → PartOf S d (depth_stencil_part S p)
+    → depth_stencil_part S p ≡ depth_stencil k (view_range (S.view k)) (has_depth f) (has_stencil f) depth stencil ∷ []
 unfolding depth_stencil_part
-part_present S p d k f depth stencil ek h ef ed es a =
-    let alone : depth_stencil_part S p ≡ depth_stencil k (view_range (S.view k)) (has_depth f) (has_stencil f) depth stencil ∷ [] = simp (sym ek, h, sym ef, ed, es) in
-    subst (PartOf S d) (sym alone) (one a)
+part_present S p k f depth stencil ek h ef ed es = simp (sym ek, h, sym ef, ed, es)
 
 -- ── the first attachment
 
@@ -57,25 +55,26 @@ module _ {A : Type 0} (o : A) (f : Attached → A) (colors : (v : ℕ) (r : Rang
   unfolding attachments
   attachments_first = first_append o f (depth_stencil_part S p) (slot_parts S p p.colors) ∙ ap (λ q. of_first q f (depth_stencil_part S p)) (slots_first p.colors)
 
-module _ (S : Session) (d : DepthStencilPart) where
-  depth_told : (xs : List Attached) → PartOf S d xs → d.is_depth_read_only ≡ of_first false depth_read_only xs
-  depth_told _ (none a) = a.depth
-  depth_told _ (one a) = a.depth
+module _ (S : Session) where
+  depth_told : (d : code.Option DepthStencilPart) (xs : List Attached) → PartOf S d xs → is_depth_read_only d ≡ of_first false depth_read_only xs
+  depth_told None xs e = sym (ap (of_first false depth_read_only) e)
+  depth_told (Some d) xs a = a.2.depth ∙ sym (ap (of_first false depth_read_only) a.1)
 
-  stencil_told : (xs : List Attached) → PartOf S d xs → d.is_stencil_read_only ≡ of_first false stencil_read_only xs
-  stencil_told _ (none a) = a.stencil
-  stencil_told _ (one a) = a.stencil
+  stencil_told : (d : code.Option DepthStencilPart) (xs : List Attached) → PartOf S d xs → is_stencil_read_only d ≡ of_first false stencil_read_only xs
+  stencil_told None xs e = sym (ap (of_first false stencil_read_only) e)
+  stencil_told (Some d) xs a = a.2.stencil ∙ sym (ap (of_first false stencil_read_only) a.1)
 
-  divergent_told : (xs : List Attached) → PartOf S d xs → d.divergent ≡ of_first 0 divergent_of xs
-  divergent_told _ (none a) = a.divergent
-  divergent_told _ (one a) = a.divergent
+  divergent_told : (d : code.Option DepthStencilPart) (xs : List Attached) → PartOf S d xs → divergent_in d ≡ of_first 0 divergent_of xs
+  divergent_told None xs e = sym (ap (of_first 0 divergent_of) e)
+  divergent_told (Some d) xs a = a.2.divergent ∙ sym (ap (of_first 0 divergent_of) a.1)
 
   -- What the reply of an accepted pass says of its first attachment.
-  pub depth_first : (p : Pass) → PartOf S d (depth_stencil_part S p) → d.is_depth_read_only ≡ of_first false depth_read_only (attachments S p)
-  depth_first p a = depth_told _ a ∙ sym (attachments_first false depth_read_only (λ v r c. refl) S p)
+  module _ (d : code.Option DepthStencilPart) (p : Pass) (a : PartOf S d (depth_stencil_part S p)) where
+    pub depth_first : is_depth_read_only d ≡ of_first false depth_read_only (attachments S p)
+    depth_first = depth_told d _ a ∙ sym (attachments_first false depth_read_only (λ v r c. refl) S p)
 
-  pub stencil_first : (p : Pass) → PartOf S d (depth_stencil_part S p) → d.is_stencil_read_only ≡ of_first false stencil_read_only (attachments S p)
-  stencil_first p a = stencil_told _ a ∙ sym (attachments_first false stencil_read_only (λ v r c. refl) S p)
+    pub stencil_first : is_stencil_read_only d ≡ of_first false stencil_read_only (attachments S p)
+    stencil_first = stencil_told d _ a ∙ sym (attachments_first false stencil_read_only (λ v r c. refl) S p)
 
-  pub divergent_first : (p : Pass) → PartOf S d (depth_stencil_part S p) → d.divergent ≡ of_first 0 divergent_of (attachments S p)
-  divergent_first p a = divergent_told _ a ∙ sym (attachments_first 0 divergent_of (λ v r c. refl) S p)
+    pub divergent_first : divergent_in d ≡ of_first 0 divergent_of (attachments S p)
+    divergent_first = divergent_told d _ a ∙ sym (attachments_first 0 divergent_of (λ v r c. refl) S p)

@@ -13,16 +13,13 @@ use Rattle.definition.specs.Session.{Pass, Session, is_none, slice_range}
 use Rattle.definition.specs.Attachments.{Attached, resolve_to, color_of, slot_part, slot_parts, resolve_part}
 use Rattle.definition.specs.declared.Attachment.{Attachment}
 use Rattle.definition.specs.declared.Slot.{Slot}
-use Rattle.laws.specs.Plans.{plan_of}
-use Rattle.laws.proofs.Tests.{clash}
 use Rattle.laws.proofs.Lists.{map-append}
 use Rattle.laws.proofs.Records.{drop_more}
 use Rattle.laws.proofs.Folds.{parts_turn}
-use Rattle.memory_init.specs.declared.Planned.{Planned}
-use Rattle.memory_init.specs.Plans.{plan_in}
 use Rattle.attachments.specs.declared.DepthStencilPart.{DepthStencilPart}
-use Rattle.attachments.specs.Attached.{Present, PartOf, none, one}
-use Rattle.attachments.specs.Resolved.{padded, listed, PlansOf}
+use Rattle.std.specs.Prelude.{None, Some}
+use Rattle.attachments.specs.Attached.{Present, PartOf}
+use Rattle.attachments.specs.Resolved.{padded, listed}
 
 -- ── an array
 
@@ -66,25 +63,23 @@ module _ {A B : Type 0} (get : A → B) (of : Attached → B) {t : Bool} {x : At
 -- ── a pass
 
 -- The depth-stencil attachment stands first.
-module _ {A B : Type 0} (get : A → B) (of : Attached → B) (S : Session) {d : DepthStencilPart} {z : A} {zs es : List A} {n : ℕ} where
-  pub first_present : (first : A) → ((x : Attached) → Present S d x → get first ≡ of x) → (xs : List Attached) → PartOf S d xs
-      → d.present ≡ true → es ≡ first ∷ zs → n ≡ 1 → length zs ≡ 2 * max_slots → Filled get of (z ∷ zs) es n xs
-  first_present first told _ (none x) h ea en long = clash h x.absent
-  first_present first told _ (one {x} a) h ea en long = record {
+module _ {A B : Type 0} (get : A → B) (of : Attached → B) (S : Session) {z : A} {zs es : List A} {n : ℕ} where
+  pub first_present : {d : DepthStencilPart} (first : A) → ((x : Attached) → Present S d x → get first ≡ of x) → (xs : List Attached) → PartOf S (Some d) xs
+      → es ≡ first ∷ zs → n ≡ 1 → length zs ≡ 2 * max_slots → Filled get of (z ∷ zs) es n xs
+  first_present first told xs a ea en long = subst (Filled get of (z ∷ zs) es n) (sym a.1) (record {
     long = ap length ea ∙ ap suc long;
-    entries = (λ i. map get (take (en i) (ea i))) ∙ λ i. told x a i ∷ [];
+    entries = (λ i. map get (take (en i) (ea i))) ∙ λ i. told a.0 a.2 i ∷ [];
     count = en;
     rest = (λ i. drop (en i) (ea i)) ∙ λ i. drop (sym en i) (z ∷ zs);
-  }
+  })
 
-  pub first_absent : (xs : List Attached) → PartOf S d xs → d.present ≡ false → es ≡ z ∷ zs → n ≡ 0 → length zs ≡ 2 * max_slots → Filled get of (z ∷ zs) es n xs
-  first_absent _ (none x) h ea en long = record {
+  pub first_absent : (xs : List Attached) → PartOf S None xs → es ≡ z ∷ zs → n ≡ 0 → length zs ≡ 2 * max_slots → Filled get of (z ∷ zs) es n xs
+  first_absent xs a ea en long = subst (Filled get of (z ∷ zs) es n) (sym a) (record {
     long = ap length ea ∙ ap suc long;
     entries = ap (λ (q : ℕ). map get (take q es)) en;
     count = en;
     rest = ap (drop n) ea;
-  }
-  first_absent _ (one a) h ea en long = clash a.present h
+  })
 
 -- A slot: its colour, then its resolve target.
 slot_parts_lem : (S : Session) (c : Slot) (xs : List Attached)
@@ -118,10 +113,6 @@ slot_turn get of S p k {start} {es} {es₁} {es₂} {n} {n₁} {n₂} xs room co
     (put_filled get of (omega (arith, room, put_count get of color)) target (put_filled get of (omega (arith, room)) color f))
 
 -- ── all of them
-
--- As plans.
-pub all_planned : {start ps : List Planned} {n : ℕ} {xs : List Attached} → n ≤ max_attachments → Filled plan_in plan_of start ps n xs → PlansOf xs (record { planned = ps; count = n })
-all_planned few f = record { plans = f.entries; whole = record { planned = f.long; count = few } }
 
 -- Blank records past those of a list.
 padded_past : (n : ℕ) (es : List Attachment) → length es ≤ n → es ++ drop (length es) (padded n []) ≡ padded n es

@@ -1,5 +1,6 @@
 -- The effect of operations on the memory of their attachment: the action that they register, whether they list a discard, and the aspect that diverges.
-use Rattle.std.specs.Prelude.{ℕ, ◌≡◌, Bool, not, ◌&&◌, ◌||◌, cond, Float}
+use Rattle.std.specs.Prelude as code
+use Rattle.std.specs.Prelude.{ℕ, ◌≡◌, Bool, not, ◌&&◌, ◌||◌, cond, Float, None, Some}
 use Rattle.std.specs.Bool.{beq}
 use Rattle.std.proofs.Math.Option.{Option, none, some}
 use Rattle.definition.specs.Channel.{Ops, loads}
@@ -8,9 +9,17 @@ use Rattle.definition.specs.declared.MemoryInitKind.{MemoryInitKind}
 use Rattle.definition.specs.declared.MemoryInitKind.TheVariants.{ImplicitlyInitialized, NeedsInitializedMemory}
 use Rattle.memory_init.specs.Plans.{init_kind}
 use Rattle.attachments.specs.declared.effect.Effect.{Effect}
+use Rattle.attachments.specs.declared.effect.Aspect.{Aspect}
+use Rattle.attachments.specs.declared.effect.Aspect.TheVariants.{Depth, Stencil}
+
+-- The number of a divergent aspect, or 0.
+abbrev pub aspect_in : code.Option Aspect → ℕ
+aspect_in None = 0
+aspect_in (Some Depth) = 1
+aspect_in (Some Stencil) = 2
 
 abbrev pub has_effect : Effect → Option MemoryInitKind → Bool → ℕ → Type 0
-has_effect p kind discards divergent = (init_kind p.kind ≡ kind) × (p.discards ≡ discards) × (p.divergent ≡ divergent)
+has_effect p kind discards divergent = (init_kind p.kind ≡ kind) × (p.discards ≡ discards) × (aspect_in p.divergent ≡ divergent)
 
 -- The kind that operations register, by whether they load and store.
 abbrev pub kind_by : Bool → Bool → Option MemoryInitKind
@@ -25,8 +34,11 @@ abbrev pub diverged_kind : {X Y : Type 0} → Ops X → Ops Y → Option MemoryI
 diverged_kind d s =
     cond (loads d.load || loads s.load) (some NeedsInitializedMemory) (cond (beq d.keep s.keep) none (some ImplicitlyInitialized))
 
+abbrev pub aspect_by : Bool → Bool → ℕ
+aspect_by d s = cond (beq d s) 0 (cond d 2 1)
+
 abbrev pub diverged_aspect : {X Y : Type 0} → Ops X → Ops Y → ℕ
-diverged_aspect d s = cond (beq d.keep s.keep) 0 (cond d.keep 2 1)
+diverged_aspect d s = aspect_by d.keep s.keep
 
 abbrev pub diverged_effect : {X Y : Type 0} → Effect → Ops X → Ops Y → Type 0
 diverged_effect p d s = has_effect p (diverged_kind d s) (not d.keep && not s.keep) (diverged_aspect d s)

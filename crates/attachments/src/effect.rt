@@ -6,14 +6,14 @@ ghost use Rattle.definition.specs.Attachments.{by_depth};
 ghost use Rattle.channel.specs.Operations.{ops_in};
 ghost use Rattle.channel.specs.Pass.{resolved_in};
 ghost use Rattle.memory_init.specs.Plans.{init_kind};
-ghost use Rattle.attachments.specs.Effect.{kind_by, has_effect, regular_effect, diverged_effect, depth_stencil_effect, usage_by};
+ghost use Rattle.attachments.specs.Effect.{aspect_in, aspect_by, kind_by, has_effect, regular_effect, diverged_effect, depth_stencil_effect, usage_by};
 ghost use Rattle.definition.specs.declared.MemoryInitKind.TheVariants.{ImplicitlyInitialized};
 
 use channel::Operations;
 use channel::pass::ResolvedPassChannel;
 use definition::MemoryInitKind;
-use memory_init::InitKind;
 
+// Usages are numbers, as the reply has them: nothing here asks which usage one is.
 // TextureUses::COLOR_TARGET.
 pub const COLOR_TARGET: u32 = 1;
 
@@ -26,47 +26,53 @@ const DEPTH_STENCIL_READ_RESOURCE: u32 = 3;
 // TextureUses::DEPTH_STENCIL_WRITE.
 const DEPTH_STENCIL_WRITE: u32 = 4;
 
-// No aspect diverges.
-pub const NO_ASPECT: u32 = 0;
-
-// The depth diverges.
-const DEPTH: u32 = 1;
-
-// The stencil diverges.
-const STENCIL: u32 = 2;
+// An aspect that diverges, by its number in the reply, where 0 stands for none.
+#[derive(Clone, Copy)]
+pub enum Aspect {
+    Depth = 1,
+    Stencil = 2,
+}
 
 // The effect of operations: the action that they register, whether they list a discard, and the aspect that diverges.
 #[derive(Clone, Copy)]
 pub struct Effect {
-    pub kind: InitKind,
+    pub kind: Option<MemoryInitKind>,
     pub discards: bool,
-    pub divergent: u32,
+    pub divergent: Option<Aspect>,
 }
 
-// The kind a if the test holds, else b.
-fn either(test: bool, a: InitKind, b: InitKind) -> InitKind
-    ensures { init_kind result ≡ cond test (init_kind a) (init_kind b) }
+// The action of operations that load and store so, if any.
+fn kind_by(loads: bool, keeps: bool) -> Option<MemoryInitKind>
+    ensures { init_kind result ≡ kind_by loads keeps }
 {
-    if test { a } else { b }
+    if loads {
+        Some(MemoryInitKind::NeedsInitializedMemory)
+    } else if keeps {
+        Some(MemoryInitKind::ImplicitlyInitialized)
+    } else {
+        None
+    }
 }
 
-// The number a if the test holds, else b.
-fn pick(test: bool, a: u32, b: u32) -> u32
-    ensures { result ≡ cond test a b }
+// Of depth and stencil, by whether each is stored: the one that is not where the other is.
+fn divergent_aspect(depth: bool, stencil: bool) -> Option<Aspect>
+    ensures { aspect_in result ≡ aspect_by depth stencil }
 {
-    if test { a } else { b }
+    match (depth, stencil) {
+        (true, false) => Some(Aspect::Stencil),
+        (false, true) => Some(Aspect::Depth),
+        _ => None,
+    }
 }
 
 // What operations that load and store so do to the lists: a needed action if they load, else an implicit one if they store; a discard if they do not.
 fn add_pass_texture_init_actions(loads: bool, keeps: bool) -> Effect
     ensures { has_effect result (kind_by loads keeps) (not keeps) 0 }
 {
-    let needs = InitKind::Some(MemoryInitKind::NeedsInitializedMemory);
-    let implicit = InitKind::Some(MemoryInitKind::ImplicitlyInitialized);
     Effect {
-        kind: either(loads, needs, either(keeps, implicit, InitKind::None)),
+        kind: kind_by(loads, keeps),
         discards: !keeps,
-        divergent: NO_ASPECT,
+        divergent: None,
     }
 }
 
@@ -82,9 +88,9 @@ pub fn resolve_effect() -> Effect
     ensures { has_effect result (some ImplicitlyInitialized) false 0 }
 {
     Effect {
-        kind: InitKind::Some(MemoryInitKind::ImplicitlyInitialized),
+        kind: Some(MemoryInitKind::ImplicitlyInitialized),
         discards: false,
-        divergent: NO_ASPECT,
+        divergent: None,
     }
 }
 
@@ -100,15 +106,13 @@ fn by_depth(has_stencil: bool, depth: Operations<f32>, stencil: Operations<u32>)
 fn diverged_effect(depth: Operations<f32>, stencil: Operations<u32>) -> Effect
     ensures { diverged_effect result (ops_in depth) (ops_in stencil) }
 {
-    let needs = InitKind::Some(MemoryInitKind::NeedsInitializedMemory);
-    let implicit = InitKind::Some(MemoryInitKind::ImplicitlyInitialized);
     let loads = depth.load.loads() | stencil.load.loads();
     let d = depth.store.stores();
     let s = stencil.store.stores();
     Effect {
-        kind: either(loads, needs, either(d == s, InitKind::None, implicit)),
+        kind: kind_by(loads, d != s),
         discards: (!d) & (!s),
-        divergent: pick(d == s, NO_ASPECT, pick(d, STENCIL, DEPTH)),
+        divergent: divergent_aspect(d, s),
     }
 }
 
@@ -143,10 +147,11 @@ pub fn depth_stencil_usage(
 ) -> u32
     ensures { result ≡ usage_by (resolved_in depth).read_only (resolved_in stencil).read_only feature binding }
 {
-    let read = depth.is_readonly() & stencil.is_readonly() & feature;
-    pick(
-        read,
-        pick(binding, DEPTH_STENCIL_READ_RESOURCE, DEPTH_STENCIL_READ),
-        DEPTH_STENCIL_WRITE,
-    )
+    if !(depth.is_readonly() & stencil.is_readonly() & feature) {
+        DEPTH_STENCIL_WRITE
+    } else if binding {
+        DEPTH_STENCIL_READ_RESOURCE
+    } else {
+        DEPTH_STENCIL_READ
+    }
 }

@@ -17,33 +17,31 @@ ghost use Rattle.channel.specs.Pass.{resolved_in};
 ghost use Rattle.laws.specs.Plans.{plan_of};
 ghost use Rattle.session.specs.Rows.{pass_in, session_in};
 ghost use Rattle.memory_init.specs.Plans.{plan_in};
-ghost use Rattle.attachments.specs.Attached.{Present, Absent, PartOf, blank};
+ghost use Rattle.attachments.specs.Attached.{Present, PartOf, blank};
 
 use channel::color::ops_of;
 use channel::pass::{ResolvedPassChannel, or_read_only};
 use definition::{Attachment, Range, Slot, View, black};
 use depth_stencil::{depth_resolved, stencil_resolved};
 use effect::{
-    COLOR_TARGET, NO_ASPECT, depth_stencil_effect, depth_stencil_usage, regular_effect,
-    resolve_effect,
+    Aspect, COLOR_TARGET, depth_stencil_effect, depth_stencil_usage, regular_effect, resolve_effect,
 };
 use formats::{has_depth, has_stencil};
-use memory_init::{InitKind, Planned};
+use memory_init::Planned;
 use session::derived::{
     is_none, read_only_depth_stencil, slice_range, strict, texture_binding, view_range,
 };
 use session::{PassRow, view};
 
-// The depth-stencil attachment of a pass, if it has one: what it does to the lists, what it replies, which channels it
-// only reads, and the aspect that is cleared after the pass.
+// The depth-stencil attachment of a pass: what it does to the lists, what it replies, which channels it only reads, and the
+// aspect that is cleared after the pass.
 #[derive(Clone, Copy)]
 pub struct DepthStencilPart {
-    pub present: bool,
     pub planned: Planned,
     pub reply: Attachment,
     pub is_depth_read_only: bool,
     pub is_stencil_read_only: bool,
-    pub divergent: u32,
+    pub divergent: Option<Aspect>,
 }
 
 // A record of a reply that stands for no attachment.
@@ -128,13 +126,11 @@ fn depth_stencil_of(
 {
     let v = view(s, k);
     let effect = depth_stencil_effect(has_depth(format), has_stencil(format), depth, stencil);
-    let kind = effect.kind;
     let usage = usage_of(s, v, depth, stencil);
     DepthStencilPart {
-        present: true,
         planned: Planned {
             range: view_range(v),
-            kind: kind,
+            kind: effect.kind,
             discards: effect.discards,
         },
         reply: depth_stencil_reply(k, usage, depth, stencil),
@@ -155,42 +151,28 @@ pub fn no_plan() -> Planned {
             layers: 0,
             slice: 0,
         },
-        kind: InitKind::None,
+        kind: None,
         discards: false,
     }
 }
 
-// No depth-stencil attachment.
-fn no_depth_stencil() -> DepthStencilPart
-    ensures { Absent result }
-{
-    DepthStencilPart {
-        present: false,
-        planned: no_plan(),
-        reply: empty_reply(),
-        is_depth_read_only: false,
-        is_stencil_read_only: false,
-        divergent: NO_ASPECT,
-    }
-}
-
-// The depth-stencil attachment of a pass, with its channels resolved.
-pub fn depth_stencil_part(pass: &PassRow) -> DepthStencilPart
+// The depth-stencil attachment of a pass, if it has one, with its channels resolved.
+pub fn depth_stencil_part(pass: &PassRow) -> Option<DepthStencilPart>
     ensures { let S = session_in pass.now in
         PartOf S result (At.depth_stencil_part S (pass_in pass.now)) }
 {
     let k = pass.depth_stencil();
     if is_none(k) {
-        return no_depth_stencil();
+        return None;
     }
     let format = view(pass.session, k).format;
-    depth_stencil_of(
+    Some(depth_stencil_of(
         pass.session,
         k,
         format,
         depth_ops(pass, format),
         stencil_ops(pass, format),
-    )
+    ))
 }
 
 // ── colours and resolve targets
@@ -200,10 +182,9 @@ pub fn color_planned(s: &[u8], c: Slot) -> Planned
     ensures { plan_in result ≡ plan_of (At.color_of (session s.now) c) }
 {
     let effect = regular_effect(ops_of(c));
-    let kind = effect.kind;
     Planned {
         range: slice_range(view(s, c.view), c.slice),
-        kind: kind,
+        kind: effect.kind,
         discards: effect.discards,
     }
 }
@@ -213,10 +194,9 @@ pub fn resolve_planned(s: &[u8], target: u32) -> Planned
     ensures { plan_in result ≡ plan_of (At.resolve_to target (Se.slice_range ((session s.now).view target) 0)) }
 {
     let effect = resolve_effect();
-    let kind = effect.kind;
     Planned {
         range: slice_range(view(s, target), 0),
-        kind: kind,
+        kind: effect.kind,
         discards: effect.discards,
     }
 }

@@ -1,14 +1,17 @@
 // The attachments of a pass, in fixed arrays: depth-stencil, then each colour and its resolve target, in the Rust's order. What each does to
 // the lists is resolved once, for judging and recording; what the reply says of it only where there is a reply. Records past the count are
 // blank, so that a reply is determined whole.
-ghost use Rattle.std.specs.Prelude.{◌≡◌, not, ◌&&◌, ◌++◌, map, ◌≤◌};
-ghost use Rattle.definition.specs.Sizes.{max_slots};
+ghost use Rattle.std.specs.Prelude.{◌≡◌, not, ◌&&◌, ◌++◌, map, List, take, length, ◌≤◌};
+ghost use Rattle.definition.specs.Sizes.{max_slots, max_attachments};
 ghost use Rattle.definition.specs.Session.{session, is_none};
 ghost use Rattle.definition.specs.Attachments.{depth_stencil_part, slot_parts};
 ghost use Rattle.attachments.specs.Attached.{PartOf};
 ghost use Rattle.definition.specs.Pass.{attachment_reply};
+ghost use Rattle.laws.specs.Plans.{plan_of};
 ghost use Rattle.session.specs.Rows.{pass_in, session_in};
-ghost use Rattle.attachments.specs.Resolved.{listed, PlansOf};
+ghost use Rattle.memory_init.specs.Plans.{plans_in};
+ghost use Rattle.memory_init.specs.declared.Planned as Pl;
+ghost use Rattle.attachments.specs.Resolved.{listed};
 
 use crate::{
     DepthStencilPart, color_planned, color_reply, empty_reply, no_plan, resolve_planned,
@@ -16,9 +19,35 @@ use crate::{
 };
 use definition::sizes::MAX_ATTACHMENTS;
 use definition::{Attachment, Slot};
-use memory_init::Plans;
+use memory_init::Planned;
 use session::PassRow;
 use session::derived::is_none;
+use std::marker::Model;
+
+// What the attachments of a pass do to the lists, in order.
+#[derive(Drop)]
+pub struct Plans {
+    planned: [Planned; MAX_ATTACHMENTS],
+    count: u32,
+}
+
+impl Model for Plans {
+    ghost Value = { List Pl.Planned };
+
+    ghost view = { λ p. take p.count p.planned };
+
+    ghost invariant = { λ p. p.count ≤ max_attachments };
+}
+
+impl Plans {
+    // All of them.
+    pub fn as_slice(&self) -> &[Planned]
+        ensures all { result.now ≡ self.now }
+        ensures few { length result.now ≤ max_attachments }
+    {
+        &self.planned[..self.count as usize]
+    }
+}
 
 // The attachments of a reply: the first `count` records.
 #[repr(C)]
@@ -43,73 +72,58 @@ fn resolves(c: Slot) -> bool
 }
 
 // What they do to the lists: the pass's depth-stencil attachment d, then each colour of the first n slots and its resolve target.
-pub fn plans_of(pass: &PassRow, d: DepthStencilPart, n: u32) -> Plans
-    requires part_of { PartOf (session_in pass.now) d (depth_stencil_part (session_in pass.now) (pass_in pass.now)) }
-    requires n_le_max_slots { n ≤ max_slots }
+pub fn plans_of(pass: &PassRow, d: &Option<DepthStencilPart>, n: u32) -> Plans
+    requires part_of { PartOf (session_in pass.now) d.now (depth_stencil_part (session_in pass.now) (pass_in pass.now)) }
+    requires few_slots { n ≤ max_slots }
     ensures { let S = session_in pass.now in
         let p = pass_in pass.now in
-        PlansOf (depth_stencil_part S p ++ slot_parts S p n) result }
+        plans_in result ≡ map plan_of (depth_stencil_part S p ++ slot_parts S p n) }
 {
     let mut planned = [no_plan(); MAX_ATTACHMENTS];
     let mut count = 0u32;
-    if d.present {
-        let plan = d.planned;
-        planned[0] = plan;
+    if let Some(d) = d {
+        planned[0] = d.planned;
         count = 1;
     }
-    let mut k = 0u32;
-    while k < n {
+    for k in 0..n {
         let c = pass.slot_without_clear(k);
         if occupied(c) {
-            let at = count as usize;
-            planned[at] = color_planned(pass.session, c);
+            planned[count as usize] = color_planned(pass.session, c);
             count += 1;
         }
         if resolves(c) {
-            let at = count as usize;
-            planned[at] = resolve_planned(pass.session, c.resolve);
+            planned[count as usize] = resolve_planned(pass.session, c.resolve);
             count += 1;
         }
-        k += 1;
     }
-    Plans {
-        planned: planned,
-        count: count,
-    }
+    Plans { planned, count }
 }
 
-// What the reply says of them.
-pub fn replies_of(pass: &PassRow, d: DepthStencilPart, n: u32) -> Attachments
-    requires part_of { PartOf (session_in pass.now) d (depth_stencil_part (session_in pass.now) (pass_in pass.now)) }
-    requires n_le_max_slots { n ≤ max_slots }
+// What the reply says of them. The walk is that of plans_of, with a reply for each plan: one walk over both would take as many lines for
+// what it makes of an attachment as it saves.
+pub fn replies_of(pass: &PassRow, d: &Option<DepthStencilPart>, n: u32) -> Attachments
+    requires part_of { PartOf (session_in pass.now) d.now (depth_stencil_part (session_in pass.now) (pass_in pass.now)) }
+    requires few_slots { n ≤ max_slots }
     ensures { let S = session_in pass.now in
         let p = pass_in pass.now in
         result ≡ listed (map (attachment_reply S) (depth_stencil_part S p ++ slot_parts S p n)) }
 {
     let mut records = [empty_reply(); MAX_ATTACHMENTS];
     let mut count = 0u32;
-    if d.present {
-        let reply = d.reply;
-        records[0] = reply;
+    if let Some(d) = d {
+        records[0] = d.reply;
         count = 1;
     }
-    let mut k = 0u32;
-    while k < n {
+    for k in 0..n {
         let c = pass.slot(k);
         if occupied(c) {
-            let at = count as usize;
-            records[at] = color_reply(c);
+            records[count as usize] = color_reply(c);
             count += 1;
         }
         if resolves(c) {
-            let at = count as usize;
-            records[at] = resolve_reply(c.resolve);
+            records[count as usize] = resolve_reply(c.resolve);
             count += 1;
         }
-        k += 1;
     }
-    Attachments {
-        records: records,
-        count: count,
-    }
+    Attachments { records, count }
 }

@@ -1,8 +1,8 @@
 -- The invariant: the plans are those before the loop, then those of the attachments of the first k slots.
-use mathlib.Core.Path.{◌≡◌, refl, sym, ap, ◌∙◌}
+use mathlib.Core.Path.{◌≡◌, refl, sym, ap, subst, ◌∙◌}
 use mathlib.Core.Bool.{not, ◌&&◌}
 use native.Mathlib.Omega.{arith}
-use Prim.Native.Nat.{◌+◌, ◌≤◌, ◌<◌}
+use Prim.Native.Nat.{◌+◌, ◌<◌}
 use mathlib.Core.List.{append-nil}
 use Rattle.definition.specs.Sizes.{max_attachments}
 use Rattle.definition.specs.Session.{is_none, slice_range}
@@ -10,10 +10,11 @@ use Rattle.definition.specs.Attachments.{depth_stencil_part, slot_parts, color_o
 use Rattle.laws.specs.Plans.{plan_of}
 use Rattle.session.specs.Rows.{pass_in, session_in}
 use Rattle.memory_init.specs.Plans.{plan_in}
+use Rattle.attachments.specs.Attached.{PartOf}
 use Rattle.attachments.proofs.Effects.{without_plan}
-use Rattle.attachments.proofs.Resolving.{PutColor, PutTarget, put, kept, put_count, first_present, first_absent, slot_turn, all_planned}
+use Rattle.attachments.proofs.Resolving.{PutColor, PutTarget, put, kept, put_count, first_present, first_absent, slot_turn}
 use Rattle.attachments.proofs.resolve.plans_of.Goals as goal
-use Rattle.attachments.proofs.resolve.plans_of.Goals.{then-d, else-d, then-occupied, else-occupied, then-resolves, else-resolves}
+use Rattle.attachments.proofs.resolve.plans_of.Goals.{in-Some, in_default, then-occupied, else-occupied, then-resolves, else-resolves}
 
 -- The colour of a slot that is not empty.
 colored : (c : goal.Joined-resolves)
@@ -42,14 +43,13 @@ resolved c =
 
 -- There is a place for each.
 place : (c : goal.Joined-resolves) → c.loop-k.count + 1 < max_attachments
-place c = omega (arith, c.loop-k.invariant.1, c.loop-k.invariant.2, c.requires.n_le_max_slots)
+place c = omega (arith, c.loop-k.invariant.1, c.loop-k.invariant.2, c.requires.few_slots)
 
 pub loop-k-init : goal.loop-k-init
 unfolding slot_parts
 loop-k-init c = (
   λ start xs f. simp append-nil f,
-  elim c.if-d.branch [ then-d w ↦ omega (arith, w.count-is) | else-d w ↦ omega (arith, w.count-is) ],
-  omega arith,
+  elim c.match-d.branch [ in-Some w ↦ omega (arith, w.count-is) | in_default w ↦ omega (arith, w.count-is) ],
   omega arith,
 )
 
@@ -58,16 +58,14 @@ loop-k-preserved c = (
   λ start xs f. slot_turn plan_in plan_of _ _ c.loop-k.k xs (place c) (colored c) (resolved c) (c.loop-k.invariant.0 start xs f),
   c.loop-k.invariant.1,
   omega (arith, put_count plan_in plan_of (colored c), put_count plan_in plan_of (resolved c), c.loop-k.invariant.2),
-  omega arith,
 )
 
 pub returns : goal.returns
 returns c =
     let S = session_in c.args.pass.now in
     let p = pass_in c.args.pass.now in
-    let e : c.loop-k.k ≡ c.args.n = omega (arith, c.loop-k.invariant.3, c.loop-k-test.false) in
-    let few : c.loop-k.count ≤ max_attachments = omega (arith, c.loop-k.invariant.1, c.loop-k.invariant.2, c.requires.n_le_max_slots) in
-    simp e at (all_planned few (c.loop-k.invariant.0 _ _ (elim c.if-d.branch [
-      | then-d w ↦ first_present plan_in plan_of S c.args.d.planned (λ x a. a.planned) (depth_stencil_part S p) c.requires.part_of w.if-d.true w.planned-is w.count-is refl
-      | else-d w ↦ first_absent plan_in plan_of S (depth_stencil_part S p) c.requires.part_of w.if-d.false w.planned-is w.count-is refl
-    ])))
+    let e : c.loop-k.k ≡ c.args.n = omega arith in
+    simp e at (c.loop-k.invariant.0 _ _ (elim c.match-d.branch [
+      | in-Some w ↦ first_present plan_in plan_of S {d = w.in-Some.d} w.in-Some.d.planned (λ x a. a.planned) (depth_stencil_part S p) (subst (λ d. PartOf S d (depth_stencil_part S p)) w.in-Some.is c.requires.part_of) w.planned-is w.count-is refl
+      | in_default w ↦ first_absent plan_in plan_of S (depth_stencil_part S p) (subst (λ d. PartOf S d (depth_stencil_part S p)) w.in_default.is c.requires.part_of) w.planned-is w.count-is refl
+    ])).entries

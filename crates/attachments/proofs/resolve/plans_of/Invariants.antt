@@ -1,5 +1,5 @@
 -- The invariant: the plans are those before the loop, then those of the attachments of the first k slots.
-use Prim.Native.Nat.{◌+◌, ◌*◌, ◌≤◌, ◌-◌}
+use Prim.Native.Nat.{◌+◌, ◌*◌, ◌≤◌}
 use mathlib.Core.List.{List, ◌++◌}
 use Rattle.definition.specs.Attachments.{Attached, slot_parts}
 use Rattle.laws.specs.Plans.{plan_of}
@@ -11,7 +11,4 @@ use Rattle.attachments.proofs.resolve.plans_of.Given as goal
 
 abbrev pub invariant-loop-k : goal.invariant-loop-k
 invariant-loop-k l = ((start : List Planned) (xs : List Attached) → Filled plan_in plan_of start l.initial.planned l.initial.count xs → Filled plan_in plan_of start l.planned l.count (xs ++ slot_parts (session_in l.pass) (pass_in l.pass) l.k))
-    × (l.initial.count ≤ 1) × (l.count ≤ l.initial.count + 2 * l.k) × (l.k ≤ l.n)
-
-abbrev pub decreases-loop-k : goal.decreases-loop-k
-decreases-loop-k l = l.n - l.k
+    × (l.initial.count ≤ 1) × (l.count ≤ l.initial.count + 2 * l.k)

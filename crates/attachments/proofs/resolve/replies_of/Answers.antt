@@ -1,5 +1,5 @@
 -- The invariant: the records are those before the loop, then those of the attachments of the first k slots.
-use mathlib.Core.Path.{◌≡◌, refl, sym, ap, ◌∙◌}
+use mathlib.Core.Path.{◌≡◌, refl, sym, ap, subst, ◌∙◌}
 use mathlib.Core.Bool.{not, ◌&&◌}
 use native.Mathlib.Omega.{arith}
 use Prim.Native.Nat.{◌+◌, ◌≤◌, ◌<◌}
@@ -9,9 +9,10 @@ use Rattle.definition.specs.Session.{is_none, slice_range}
 use Rattle.definition.specs.Attachments.{depth_stencil_part, slot_parts, color_of, resolve_to}
 use Rattle.definition.specs.Pass.{attachment_reply}
 use Rattle.session.specs.Rows.{pass_in, session_in}
+use Rattle.attachments.specs.Attached.{PartOf}
 use Rattle.attachments.proofs.Resolving.{PutColor, PutTarget, put, kept, put_count, first_present, first_absent, slot_turn, all_replied}
 use Rattle.attachments.proofs.resolve.replies_of.Goals as goal
-use Rattle.attachments.proofs.resolve.replies_of.Goals.{then-d, else-d, then-occupied, else-occupied, then-resolves, else-resolves}
+use Rattle.attachments.proofs.resolve.replies_of.Goals.{in-Some, in_default, then-occupied, else-occupied, then-resolves, else-resolves}
 
 -- The colour of a slot that is not empty.
 colored : (c : goal.Joined-resolves)
@@ -39,14 +40,13 @@ resolved c =
 
 -- There is a place for each.
 place : (c : goal.Joined-resolves) → c.loop-k.count + 1 < max_attachments
-place c = omega (arith, c.loop-k.invariant.1, c.loop-k.invariant.2, c.requires.n_le_max_slots)
+place c = omega (arith, c.loop-k.invariant.1, c.loop-k.invariant.2, c.requires.few_slots)
 
 pub loop-k-init : goal.loop-k-init
 unfolding slot_parts
 loop-k-init c = (
   λ start xs f. simp append-nil f,
-  elim c.if-d.branch [ then-d w ↦ omega (arith, w.count-is) | else-d w ↦ omega (arith, w.count-is) ],
-  omega arith,
+  elim c.match-d.branch [ in-Some w ↦ omega (arith, w.count-is) | in_default w ↦ omega (arith, w.count-is) ],
   omega arith,
 )
 
@@ -55,16 +55,15 @@ loop-k-preserved c = (
   λ start xs f. slot_turn _ _ _ _ c.loop-k.k xs (place c) (colored c) (resolved c) (c.loop-k.invariant.0 start xs f),
   c.loop-k.invariant.1,
   omega (arith, put_count _ _ (colored c), put_count _ _ (resolved c), c.loop-k.invariant.2),
-  omega arith,
 )
 
 pub returns : goal.returns
 returns c =
     let S = session_in c.args.pass.now in
     let p = pass_in c.args.pass.now in
-    let e : c.loop-k.k ≡ c.args.n = omega (arith, c.loop-k.invariant.3, c.loop-k-test.false) in
-    let few : c.loop-k.count ≤ max_attachments = omega (arith, c.loop-k.invariant.1, c.loop-k.invariant.2, c.requires.n_le_max_slots) in
-    simp e at (all_replied (attachment_reply S) few (c.loop-k.invariant.0 _ _ (elim c.if-d.branch [
-      | then-d w ↦ first_present (λ a. a) (attachment_reply S) S c.args.d.reply (λ x a. a.reply) (depth_stencil_part S p) c.requires.part_of w.if-d.true w.records-is w.count-is refl
-      | else-d w ↦ first_absent (λ a. a) (attachment_reply S) S (depth_stencil_part S p) c.requires.part_of w.if-d.false w.records-is w.count-is refl
+    let e : c.loop-k.k ≡ c.args.n = omega arith in
+    let few : c.loop-k.count ≤ max_attachments = omega (arith, c.loop-k.invariant.1, c.loop-k.invariant.2, c.requires.few_slots) in
+    simp e at (all_replied (attachment_reply S) few (c.loop-k.invariant.0 _ _ (elim c.match-d.branch [
+      | in-Some w ↦ first_present (λ a. a) (attachment_reply S) S {d = w.in-Some.d} w.in-Some.d.reply (λ x a. a.reply) (depth_stencil_part S p) (subst (λ d. PartOf S d (depth_stencil_part S p)) w.in-Some.is c.requires.part_of) w.records-is w.count-is refl
+      | in_default w ↦ first_absent (λ a. a) (attachment_reply S) S (depth_stencil_part S p) (subst (λ d. PartOf S d (depth_stencil_part S p)) w.in_default.is c.requires.part_of) w.records-is w.count-is refl
     ])) (simp c.empty_reply-records.ensures))

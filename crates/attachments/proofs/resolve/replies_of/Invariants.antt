@@ -1,5 +1,5 @@
 -- The invariant: the records are those before the loop, then those of the attachments of the first k slots.
-use Prim.Native.Nat.{◌+◌, ◌*◌, ◌≤◌, ◌-◌}
+use Prim.Native.Nat.{◌+◌, ◌*◌, ◌≤◌}
 use mathlib.Core.List.{List, ◌++◌}
 use Rattle.definition.specs.Attachments.{Attached, slot_parts}
 use Rattle.definition.specs.Pass.{attachment_reply}
@@ -10,7 +10,4 @@ use Rattle.attachments.proofs.resolve.replies_of.Given as goal
 
 abbrev pub invariant-loop-k : goal.invariant-loop-k
 invariant-loop-k l = ((start : List Attachment) (xs : List Attached) → Filled (λ a. a) (attachment_reply (session_in l.pass)) start l.initial.records l.initial.count xs → Filled (λ a. a) (attachment_reply (session_in l.pass)) start l.records l.count (xs ++ slot_parts (session_in l.pass) (pass_in l.pass) l.k))
-    × (l.initial.count ≤ 1) × (l.count ≤ l.initial.count + 2 * l.k) × (l.k ≤ l.n)
-
-abbrev pub decreases-loop-k : goal.decreases-loop-k
-decreases-loop-k l = l.n - l.k
+    × (l.initial.count ≤ 1) × (l.count ≤ l.initial.count + 2 * l.k)
