@@ -1,6 +1,6 @@
 // Surfaces counted, where one stands among those of its texture, and whether a range of mips or layers is a part. Counting has an answer for every byte
 // string and every number: it stops at one past the most surfaces that a session has.
-ghost use Rattle.std.specs.Prelude.{◌≡◌, ◌+◌, ◌*◌, ◌≤◌, min};
+ghost use Rattle.std.specs.Prelude.{◌≡◌, ◌+◌, ◌*◌, ◌≤◌};
 ghost use Rattle.definition.specs.Sizes.{max_surfaces};
 ghost use Rattle.definition.specs.Session.{session, mips_before, surfaces_in, surface_offset};
 ghost use Rattle.session.specs.Counted.{surfaces_up_to};
@@ -15,31 +15,15 @@ use std::num::wrapping_sub_u32;
 // Where counting stops.
 const COUNTED_SURFACES: u64 = MAX_SURFACES as u64 + 1;
 
-// The product of two u32, whole.
-fn times(a: u32, b: u32) -> u64
-    ensures { (result ≡ a * b) × (result ≤ 18446744065119617025) }
-{
-    (a as u64) * (b as u64)
-}
-
-// The smaller of two.
-fn least(a: u64, b: u64) -> u64
-    ensures { result ≡ min a b }
-{
-    if a <= b { a } else { b }
-}
-
 // The surfaces of the mips before n of a 3D texture: from mip 32 on each is one slice.
 fn slices_before(t: Texture, n: u32) -> u64
     requires { t.dimension ≡ 3 }
     ensures { (result ≡ mips_before t n) × (result ≤ 18446744065119617025) }
 {
-    let halved = least(n as u64, 32) as u32;
+    let halved = n.min(32);
     let mut sum = 0u64;
-    let mut mip = 0u32;
-    while mip < halved {
+    for mip in 0..halved {
         sum += slices_in(t, mip) as u64;
-        mip += 1;
     }
     sum + (n - halved) as u64
 }
@@ -51,7 +35,7 @@ pub fn mips_before(t: Texture, n: u32) -> u64
     if t.dimension == TEXTURE_D3 {
         slices_before(t, n)
     } else {
-        times(n, array_layers(t))
+        n as u64 * array_layers(t) as u64
     }
 }
 
@@ -60,7 +44,7 @@ pub fn surface_offset(t: Texture, x: Surface) -> u64
     requires { surface_offset t x ≤ max_surfaces }
     ensures { result ≡ surface_offset t x }
 {
-    mips_before(t, x.mip) + (times(x.slice, array_layers(t)) + x.layer as u64)
+    mips_before(t, x.mip) + (x.slice as u64 * array_layers(t) as u64 + x.layer as u64)
 }
 
 // The surfaces of a texture.
@@ -75,10 +59,8 @@ pub fn surfaces_before(s: &[u8], n: u32) -> u64
     ensures { (result ≡ surfaces_up_to (session s.now) n) × (result ≤ max_surfaces + 1) }
 {
     let mut sum = 0u64;
-    let mut k = 0u32;
-    while k < n {
-        sum = least(COUNTED_SURFACES, sum + surfaces_in(texture(s, k)));
-        k += 1;
+    for k in 0..n {
+        sum = COUNTED_SURFACES.min(sum + surfaces_in(texture(s, k)));
     }
     sum
 }

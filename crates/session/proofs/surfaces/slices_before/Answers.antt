@@ -6,21 +6,19 @@ use Rattle.session.proofs.surfaces.slices_before.Goals as goal
 
 pub loop-mip-init : goal.loop-mip-init
 unfolding mips_before
-loop-mip-init c = (refl, omega arith, c.least-halved.ensures, omega arith)
+loop-mip-init c = (refl, omega arith)
 
 pub loop-mip-preserved : goal.loop-mip-preserved
 loop-mip-preserved c = (
   rw (add-one c.loop-mip.mip) (simp (c.loop-mip.invariant.0, c.slices_in.ensures) (slices_suc c.args.t c.loop-mip.mip c.requires)),
-  omega arith,
-  c.loop-mip.invariant.2,
   omega arith,
 )
 
 pub returns : goal.returns
 returns c =
     let a = c.args in
-    let e : c.loop-mip.mip ≡ c.least-halved.result = omega arith in (
-      ap (λ q. q + (a.n - c.least-halved.result)) (c.loop-mip.invariant.0 ∙ ap (mips_before a.t) e)
-          ∙ slices_all a.t a.n c.least-halved.result c.requires (omega arith) c.loop-mip.invariant.2,
+    let e : c.loop-mip.mip ≡ c.min-halved.result = omega arith in (
+      ap (λ q. q + (a.n - c.min-halved.result)) (c.loop-mip.invariant.0 ∙ ap (mips_before a.t) e)
+          ∙ slices_all a.t a.n c.min-halved.result c.requires (omega arith) c.min-halved.ensures,
       omega arith,
     )

@@ -7,8 +7,8 @@ use Rattle.session.proofs.surfaces.surfaces_before.Goals as goal
 
 pub loop-k-init : goal.loop-k-init
 unfolding surfaces_up_to surfaces_before
-loop-k-init c = (refl, omega arith, omega arith)
+loop-k-init c = (refl, omega arith)
 
 pub loop-k-preserved : goal.loop-k-preserved
 loop-k-preserved c =
-    (rw add-one (simp (c.least-sum.ensures, c.surfaces_in.ensures.0, c.texture.ensures, c.loop-k.invariant.0, up_to_suc)), omega arith, omega arith)
+    (rw add-one (simp (c.min-sum.ensures, c.surfaces_in.ensures.0, c.texture.ensures, c.loop-k.invariant.0, up_to_suc)), omega arith)
