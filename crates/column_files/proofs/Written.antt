@@ -8,7 +8,7 @@ use native.Mathlib.Omega.{arith}
 use borrow.Author.Tests.{eq-eqb, ne_eqb}
 use borrow.Rule.Slice.PartMut.{put_mid}
 use lib.ListN.{length, take, drop, length-append, length-drop, length-take}
-use lib.Seq.{length-take-le, take_at, drop_at, take_all, drop-drop, drop-length}
+use lib.Seq.{take_at, drop_at, take_all, drop-drop, drop-length}
 use Rattle.definition.specs.Sizes.{longest_session}
 use Rattle.definition.specs.Session.{session, pass_count, pass_start}
 use Rattle.definition.specs.Readable.{session_refusal}
@@ -98,16 +98,16 @@ module _ (way : Way) (s before : List ℕ) (accepted : session_refusal s ≡ 0) 
         long = omega (arith, ap length whole, length-append (rearranged way s) (drop (length s) before), rearranged_length way s accepted)
 
   -- The same where the start is told, and the front is copied whole.
-  pub printed_from : {start n number : ℕ} {copied after : List ℕ} → start ≡ pass_start s → n ≡ (session s).pass_count
-      → copied ≡ take start s ++ drop start before
-      → Rearranged way n (take (length s - start) (drop start s)) (take (length copied - start) (drop start copied)) number after
+  pub printed_from : {start n number : ℕ} {copied part after : List ℕ} → start ≡ pass_start s → n ≡ (session s).pass_count
+      → copied ≡ take start s ++ drop start before → part ≡ drop start s
+      → Rearranged way n part (take (length copied - start) (drop start copied)) number after
       → Printed before (rearranged way s) (put_mid start (length copied - start) copied after) (length s)
-  printed_from {start} {n} {number} {copied} {after} e counted c r =
+  printed_from {start} {n} {number} {copied} {part} {after} e counted c p r =
       subst (λ (k : ℕ). copied ≡ take k s ++ drop k before → Rearranged way n (drop k s) (drop k copied) number after
       → Printed before (rearranged way s) (put_mid k (length copied - k) copied after) (length s)) (sym e)
       (λ q. printed_session q counted) c
       (subst (λ b. Rearranged way n (drop start s) b number after) (to_the_end start copied)
-      (subst (λ b. Rearranged way n b (take (length copied - start) (drop start copied)) number after) (to_the_end start s) r))
+      (subst (λ b. Rearranged way n b (take (length copied - start) (drop start copied)) number after) p r))
 
 -- ── which files are written so
 

@@ -20,19 +20,16 @@ use std::io::Read;
 use streams::{BUFFER_BYTES, read_file};
 
 // A readable session, rearranged: its length.
+#[tactic(auto, using(crate::proofs::Theorem::start_inside, crate::proofs::Written::session_fits))]
 fn put_rearranged(way: Way, session: &[u8], out: &mut [u8]) -> usize
     requires { (session_refusal session.now ≡ 0) × (longest_session ≤ length out.old) }
     ensures { Printed out.old (rearranged way session.now) out.new result }
 {
     let start = pass_start(session);
-    out[..start].copy_from_slice(&session[..start]);
+    let (front, passes) = session.split_at(start);
+    out[..start].copy_from_slice(front);
     // A readable session is not refused.
-    let _ = rearrange(
-        way,
-        pass_count(session),
-        &session[start..],
-        &mut out[start..],
-    );
+    let _ = rearrange(way, pass_count(session), passes, &mut out[start..]);
     session.len()
 }
 
@@ -51,6 +48,7 @@ pub fn write_file(way: Way, file: File<'_>, out: &mut [u8]) -> usize
 }
 
 // What is to be written for the input: its length. Where reading failed there is nothing.
+// `deskcheck` has the same three lines: shared, they would have each program's contract at a closure too, and be no shorter.
 pub fn answer<R: Read>(way: Way, input: &mut R, out: &mut [u8]) -> io::Result<usize>
     requires { longest_session ≤ length out.old }
     ensures answered { MatchResult result

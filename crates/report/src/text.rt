@@ -30,7 +30,7 @@ impl Text<'_> {
         self.end = end;
     }
 
-    // A number, as a text that says it.
+    // A number, as a text that says it. Of `write!` it is not known that it does not fail where there is room.
     fn push_decimal(&mut self, n: u32)
         requires { self.old.end + T.max_digits ≤ length self.old.buffer.now }
         ensures appended { Appended self.old (T.decimal n) self.new }

@@ -34,7 +34,7 @@ fn read_from<R: Read>(input: &mut R, buf: &mut [u8], at: usize) -> io::Result<us
     input.read(&mut buf[at..])
 }
 
-// Reads until the buffer is full or the input ends.
+// Reads until the buffer is full or the input ends. The library's readers fill exactly, or a vector of the heap.
 pub fn read_head<R: Read>(input: &mut R, buf: &mut [u8]) -> io::Result<usize>
     ensures fits { IfOk result (λ n. n ≤ length buf.new) }
     ensures ok { IfOk result (λ n.
@@ -56,6 +56,7 @@ pub fn read_head<R: Read>(input: &mut R, buf: &mut [u8]) -> io::Result<usize>
 }
 
 // Reads on from so many bytes, to the end of the input or to a length that no length field has.
+// The library's `copy` does not say what was read before a failure.
 fn read_rest<R: Read>(input: &mut R, from: u64) -> io::Result<u64>
     ensures grows { IfOk result (λ n. from ≤ n) }
     ensures ok { IfOk result (λ n. (bs : List ℕ) × (n ≡ from + length bs)
@@ -78,6 +79,7 @@ fn read_rest<R: Read>(input: &mut R, from: u64) -> io::Result<u64>
 // Reads the input: the whole of it into the buffer, or as much as the buffer holds, and the rest is counted.
 pub fn read_file<'a, R: Read>(input: &mut R, buf: &'a mut [u8]) -> io::Result<File<'a>>
     requires { longest_session < length buf.old }
+    ensures fits { IfOk result (λ file. length file.head.now ≤ length buf.old) }
     ensures known { IfOk result (λ file. IfSome (R.remaining input.old) (λ xs.
         Holds file.head.now file.bytes xs)) }
     ensures err { OnErr result ((bs : List ℕ) × Consumes (R.remaining input.old) (R.remaining input.new) bs) }
@@ -96,7 +98,7 @@ pub fn read_file<'a, R: Read>(input: &mut R, buf: &'a mut [u8]) -> io::Result<Fi
     })
 }
 
-// Writes bytes to the last. The library's `write_all` does not say what was written before a failure.
+// Writes all bytes. The library's `write_all` does not say what was written before a failure.
 pub fn write_bytes<W: Write>(output: &mut W, bytes: &[u8]) -> io::Result<()>
     ensures ok { OnOk result (Appends (W.contents output.old) (W.contents output.new) bytes.now) }
     // What was written before the failure.
