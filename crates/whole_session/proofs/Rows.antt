@@ -6,14 +6,16 @@ use mathlib.Core.Path.{◌≡◌, refl, sym, ap, subst, ◌∙◌}
 use mathlib.Core.Bool.{true, false}
 use mathlib.Core.List.{List, [], ◌∷◌, ◌++◌, append-nil, append_assoc}
 use lib.Dec.{eqb}
-use lib.ListN.{length, drop, replicate, length-replicate}
+use lib.ListN.{length, length-append, drop, replicate, length-replicate}
 use borrow.Author.Tests.{eq-eqb, ne_eqb}
 use Rattle.definition.specs.Sizes.{surface_bytes, discards_bytes, row_numbers, row_bytes}
 use Rattle.definition.specs.Bytes.{u32_at}
-use Rattle.definition.specs.Session.{Session}
+use Rattle.definition.specs.Session.{Session, session}
+use Rattle.definition.specs.Readable.{session_refusal}
+use Rattle.definition.specs.MemoryInit.{Lists}
 use Rattle.definition.specs.Pass.{Outcome, check_pass}
 use Rattle.definition.specs.Calls.{no_entries}
-use Rattle.definition.specs.Program.{line, ends_buffer, next_lists, lines}
+use Rattle.definition.specs.Program.{ends_buffer, next_lists, lines, deskcheck}
 use Rattle.laws.proofs.Tests.{cond_on, cond_off}
 use Rattle.lists.specs.Lists.{count_in, surface_of, CountSet}
 use Rattle.lists.proofs.Lists.{list_length, emptied}
@@ -21,7 +23,7 @@ use Rattle.memory_init.specs.Tally.{DiscardsInRoom}
 use Rattle.render_pass.specs.declared.summary.PassSummary.{PassSummary}
 use Rattle.render_pass.specs.Summary.{summary, StandFor, Summarized}
 use Rattle.whole_session.specs.Numbers.{numbers_at, put_numbers}
-use Rattle.whole_session.specs.Rows.{lists_before, row_at, first_rows, rows_in, Reached}
+use Rattle.whole_session.specs.Rows.{lists_before, row_at, lines_from, rows_in, Reached}
 use Rattle.whole_session.proofs.Numbers.{numbers_kept, numbers_past}
 
 -- ── the end of a buffer
@@ -88,28 +90,46 @@ reached_fresh S passes = reached_first S passes (replicate discards_bytes 0) (re
 
 -- ── all of them
 
-pub rows_more : (S : Session) (passes k : ℕ) → first_rows S passes (k + 1) ≡ first_rows S passes k ++ (row_at S passes k ∷ [])
-unfolding first_rows
-rows_more S passes k = ap (first_rows S passes) (add-one k)
+-- What is said from the first pass on.
+pub lines_first : (s : List ℕ) (n : ℕ) → session_refusal s ≡ 0 → n ≡ (session s).pass_count → lines_from s n 0 ≡ deskcheck s
+unfolding lists_before deskcheck
+lines_first s n h e =
+    let all : n - 0 ≡ (session s).pass_count = omega (arith, e) in
+    ap (λ (q : ℕ). lines (session s) 0 q no_entries) all ∙ sym (cond_on (eqb (session_refusal s) 0) _ _ (eq-eqb (session_refusal s) 0 h))
 
-pub no_rows : (S : Session) (passes : ℕ) → first_rows S passes 0 ≡ []
-unfolding first_rows
-no_rows S passes = refl
+-- A line, and what is said from the next pass on.
+pub lines_next : (s : List ℕ) (passes k : ℕ) (row : List ℕ) → k < passes → row ≡ row_at (session s) passes k → lines_from s passes k ≡ row ∷ lines_from s passes (k + 1)
+lines_next s passes k row h e =
+    let S = session s in
+    let to_go : passes - k ≡ suc (passes - (k + 1)) = omega (arith, h) in
+    ap (λ (q : ℕ). lines S k q (lists_before S passes k)) to_go
+    ∙ λ i. sym e i ∷ lines S (k + 1) (passes - (k + 1)) (sym (next_lists_lem S passes k) i)
 
--- The rows so far and the lines of the passes to go are the session's lines.
-rows_then : (S : Session) (passes k left : ℕ) → k + left ≡ passes → lines S 0 passes no_entries ≡ first_rows S passes k ++ lines S k left (lists_before S passes k)
-unfolding first_rows lists_before
-rows_then S passes zero left e = let all : passes ≡ left = omega (arith, e) in ap (λ (q : ℕ). lines S 0 q no_entries) all
-rows_then S passes (suc k) left e =
-    let o = check_pass S (S.pass k) (lists_before S passes k) in
-    let one : k + 1 ≡ suc k = add-one k in
-    let to_go : passes - suc k ≡ left = omega (arith, e) in
-    rows_then S passes k (suc left) (omega (arith, e))
-    ∙ sym (append_assoc (first_rows S passes k) (line k o ∷ []) (lines S (k + 1) left (next_lists (S.pass k) left o.lists)))
-    ∙ λ i. (first_rows S passes k ++ (line k o ∷ [])) ++ lines S (one i) left (next_lists (S.pass k) (sym to_go i) o.lists)
+-- So many lines are said.
+lines_count : (S : Session) (k n : ℕ) (l : Lists) → length (lines S k n l) ≡ n
+lines_count S k zero l = refl
+lines_count S k (suc n) l = ap suc (lines_count S (k + 1) n (next_lists (S.pass k) n (check_pass S (S.pass k) l).lists))
 
-pub rows_all : (S : Session) (passes : ℕ) → first_rows S passes passes ≡ lines S 0 passes no_entries
-rows_all S passes = sym (append-nil (first_rows S passes passes)) ∙ sym (rows_then S passes passes 0 (omega arith))
+pub deskcheck_count : (s : List ℕ) → session_refusal s ≡ 0 → length (deskcheck s) ≡ (session s).pass_count
+unfolding deskcheck
+deskcheck_count s h =
+    ap length (cond_on (eqb (session_refusal s) 0) _ _ (eq-eqb (session_refusal s) 0 h)) ∙ lines_count (session s) 0 (session s).pass_count no_entries
+
+-- A walk that has given some rows, x next, and others are to come.
+module _ (s : List ℕ) (read : session_refusal s ≡ 0) (done rest : List (List ℕ)) (x : List ℕ) (all : done ++ (x ∷ rest) ≡ deskcheck s) where
+  -- The row is one of a pass.
+  pub row_there : length done < (session s).pass_count
+  row_there = omega (arith, length-append done (x ∷ rest), ap length all, deskcheck_count s read)
+
+  -- It is given too.
+  pub row_given : (done ++ (x ∷ [])) ++ rest ≡ deskcheck s
+  row_given = append_assoc done (x ∷ []) rest ∙ all
+
+-- A walk that has given all.
+pub rows_given : (s : List ℕ) (done : List (List ℕ)) → session_refusal s ≡ 0 → done ++ [] ≡ deskcheck s → (done ≡ deskcheck s) × (length done ≡ (session s).pass_count)
+rows_given s done read e =
+    let all : done ≡ deskcheck s = sym (append-nil done) ∙ e in
+    (all, ap length all ∙ deskcheck_count s read)
 
 -- ── in lent bytes
 
@@ -123,15 +143,15 @@ rows_next : (b : List ℕ) (k : ℕ) → rows_in b (k + 1) ≡ rows_in b k ++ (n
 unfolding rows_in
 rows_next b k = ap (rows_in b) (add-one k)
 
-pub none_put : (S : Session) (passes : ℕ) (b : List ℕ) → rows_in b 0 ≡ first_rows S passes 0
-unfolding rows_in first_rows
-none_put S passes b = refl
+pub none_put : (b : List ℕ) → rows_in b 0 ≡ []
+unfolding rows_in
+none_put b = refl
 
 -- One row more.
-module _ (S : Session) (passes k : ℕ) (b b' row : List ℕ) (put : b' ≡ put_numbers b (row_bytes * k) row row_numbers) where
-  pub row_put : rows_in b k ≡ first_rows S passes k → numbers_at b' (row_bytes * k) row_numbers ≡ row → row ≡ row_at S passes k → rows_in b' (k + 1) ≡ first_rows S passes (k + 1)
-  row_put so_far read is =
-      rows_next b' k ∙ (λ i. (ap (λ l. rows_in l k) put ∙ rows_kept b row k k (omega arith) ∙ so_far) i ++ ((read ∙ is) i ∷ [])) ∙ sym (rows_more S passes k)
+module _ (k : ℕ) (b b' row : List ℕ) (put : b' ≡ put_numbers b (row_bytes * k) row row_numbers) where
+  pub row_put : (rows : List (List ℕ)) → rows_in b k ≡ rows → numbers_at b' (row_bytes * k) row_numbers ≡ row → rows_in b' (k + 1) ≡ rows ++ (row ∷ [])
+  row_put rows so_far read =
+      rows_next b' k ∙ λ i. (ap (λ l. rows_in l k) put ∙ rows_kept b row k k (omega arith) ∙ so_far) i ++ (read i ∷ [])
 
-  pub rest_stays : (b₀ : List ℕ) → k < passes → drop (row_bytes * passes) b ≡ drop (row_bytes * passes) b₀ → drop (row_bytes * passes) b' ≡ drop (row_bytes * passes) b₀
-  rest_stays b₀ h e = ap (drop (row_bytes * passes)) put ∙ numbers_past b (row_bytes * k) row row_numbers (row_bytes * passes) (omega arith) ∙ e
+  pub rest_stays : (b₀ : List ℕ) (passes : ℕ) → k < passes → drop (row_bytes * passes) b ≡ drop (row_bytes * passes) b₀ → drop (row_bytes * passes) b' ≡ drop (row_bytes * passes) b₀
+  rest_stays b₀ passes h e = ap (drop (row_bytes * passes)) put ∙ numbers_past b (row_bytes * k) row row_numbers (row_bytes * passes) (omega arith) ∙ e

@@ -1,11 +1,12 @@
 -- The rows of a whole session, nine numbers a pass: from the lists that each pass starts from, and in lent bytes.
 use Rattle.std.specs.Prelude.{ℕ, zero, suc, ◌+◌, ◌-◌, ◌*◌, ◌≤◌, ◌≡◌, List, [], ◌∷◌, ◌++◌}
 use Rattle.definition.specs.Sizes.{max_actions, row_numbers, row_bytes}
-use Rattle.definition.specs.Session.{Session}
+use Rattle.definition.specs.Session.{Session, session}
+use Rattle.definition.specs.Readable.{session_refusal}
 use Rattle.definition.specs.MemoryInit.{Lists}
 use Rattle.definition.specs.Pass.{check_pass}
 use Rattle.definition.specs.Calls.{no_entries}
-use Rattle.definition.specs.Program.{line, next_lists}
+use Rattle.definition.specs.Program.{line, next_lists, lines}
 use Rattle.memory_init.specs.Tally.{DiscardsInRoom}
 use Rattle.render_pass.specs.Summary.{StandFor}
 use Rattle.whole_session.specs.declared.Row.{Row}
@@ -18,13 +19,13 @@ unfoldable pub lists_before : Session → ℕ → ℕ → Lists
 lists_before S passes zero = no_entries
 lists_before S passes (suc k) = next_lists (S.pass k) (passes - suc k) (check_pass S (S.pass k) (lists_before S passes k)).lists
 
--- Its row, and the rows of the first k.
+-- Its row.
 abbrev pub row_at : Session → ℕ → ℕ → List ℕ
 row_at S passes k = line k (check_pass S (S.pass k) (lists_before S passes k))
 
-unfoldable pub first_rows : Session → ℕ → ℕ → List (List ℕ)
-first_rows S passes zero = []
-first_rows S passes (suc k) = first_rows S passes k ++ (row_at S passes k ∷ [])
+-- What `deskcheck` says of the passes from k on.
+abbrev pub lines_from : List ℕ → ℕ → ℕ → List (List ℕ)
+lines_from s passes k = lines (session s) k (passes - k) (lists_before (session s) passes k)
 
 -- ── in a walk
 
@@ -38,6 +39,12 @@ pub record Reached (S : Session) (passes k : ℕ) (d : List ℕ) (actions : ℕ)
 pub record Advances (S : Session) (passes k : ℕ) (r : Row) (d : List ℕ) : Type 0 where
   pub row : r.numbers ≡ row_at S passes k
   pub next : Reached S passes (k + 1) d r.actions
+
+-- A walk of a readable session, before pass k of so many.
+pub record Walks (s : List ℕ) (passes k : ℕ) (d : List ℕ) (actions : ℕ) : Type 0 where
+  pub readable : session_refusal s ≡ 0
+  pub within : k ≤ passes
+  pub reached : Reached (session s) passes k d actions
 
 -- ── in lent bytes
 

@@ -5,26 +5,28 @@
 
 pub mod words;
 
-ghost use Rattle.std.specs.Prelude.{◌≡◌, ◌+◌, ◌-◌, ◌*◌, ◌≤◌, ◌<◌, length, drop};
+ghost use Rattle.std.specs.Prelude.{◌≡◌, ℕ, List, ◌+◌, ◌-◌, ◌*◌, ◌≤◌, ◌<◌, length, drop};
+ghost use Rattle.std.specs.Iterator.{YieldsFirst, item_count};
 ghost use Rattle.definition.specs.Sizes.{row_bytes, rows_bytes};
 ghost use Rattle.definition.specs.Session.{session};
 ghost use Rattle.definition.specs.Readable.{session_refusal};
-ghost use Rattle.definition.specs.Program.{ends_buffer};
+ghost use Rattle.definition.specs.Program.{ends_buffer, deskcheck};
 ghost use Rattle.session.specs.Rows.{pass_in};
-ghost use Rattle.whole_session.specs.Rows.{rows_in, first_rows, Reached, Advances};
+ghost use Rattle.whole_session.specs.Rows.{lines_from, rows_in, Reached, Advances, Walks};
 
 use definition::sizes::{DISCARDS_BYTES, ROW_BYTES, ROW_NUMBERS};
 use lists::{count, set_count};
 use render_pass::summary::summarize;
 use session::header::pass_count;
 use session::{PassRow, pass_row};
+use std::marker::Model;
 use words::write_numbers;
 
 // The row of a pass, and how many actions there are before the next one.
 #[derive(Clone, Copy)]
-pub struct Row {
-    pub numbers: [u32; ROW_NUMBERS],
-    pub actions: usize,
+struct Row {
+    numbers: [u32; ROW_NUMBERS],
+    actions: usize,
 }
 
 // Whether a buffer ends at a pass, number k of so many: by its flag, or as the last.
@@ -36,8 +38,8 @@ fn ends_buffer(pass: &PassRow, k: u32, passes: u32) -> bool
 }
 
 // The row of pass k of so many of a readable session; the discards and the actions are then those from which the next pass starts.
-pub fn next_row(s: &[u8], k: u32, passes: u32, discards: &mut [u8], actions: usize) -> Row
-    requires s_value { (session_refusal s.now ≡ 0) × (k < passes) }
+fn next_row(s: &[u8], k: u32, passes: u32, discards: &mut [u8], actions: usize) -> Row
+    requires there { (session_refusal s.now ≡ 0) × (k < passes) }
     requires reached { Reached (session s.now) passes k discards.old actions }
     ensures { Advances (session s.now) passes k result discards.new }
 {
@@ -55,46 +57,85 @@ pub fn next_row(s: &[u8], k: u32, passes: u32, discards: &mut [u8], actions: usi
         said.clears as u32,
         count(discards) as u32,
     ];
-    if !ends_buffer(&pass, k, passes) {
-        return Row {
-            numbers: numbers,
-            actions: said.actions,
-        };
+    let mut actions = said.actions;
+    if ends_buffer(&pass, k, passes) {
+        set_count(discards, 0);
+        actions = 0;
     }
-    set_count(discards, 0);
-    Row {
-        numbers: numbers,
-        actions: 0,
+    Row { numbers, actions }
+}
+
+// A walk over the passes of a readable session, from fresh lists: it gives the row of each.
+#[derive(Drop)]
+pub struct Walk<'a> {
+    session: &'a [u8],
+    passes: u32,
+
+    // The next pass, and the discards and the number of actions that it starts from.
+    k: u32,
+    discards: [u8; DISCARDS_BYTES],
+    actions: usize,
+}
+
+impl<'a> Model for Walk<'a> {
+    ghost Value = { List (List ℕ) };
+
+    ghost view = { λ w. lines_from w.session.now w.passes w.k };
+
+    ghost invariant = { λ w. Walks w.session.now w.passes w.k w.discards w.actions };
+}
+
+impl<'a> Walk<'a> {
+    // Before the first pass.
+    pub fn new(session: &'a [u8]) -> Self
+        requires { session_refusal session.now ≡ 0 }
+        ensures { result ≡ deskcheck session.now }
+    {
+        Walk {
+            session,
+            passes: pass_count(session),
+            k: 0,
+            discards: [0; DISCARDS_BYTES],
+            actions: 0,
+        }
     }
 }
 
-// The rows of so many passes of a readable session as bytes, from no discards and no actions.
-fn put_rows(s: &[u8], passes: u32, rows: &mut [u8], discards: &mut [u8])
-    requires s_value { session_refusal s.now ≡ 0 }
-    requires reached { Reached (session s.now) passes 0 discards.old 0 }
-    requires passes_in_bounds { row_bytes * passes ≤ length rows.old }
-    ensures passes_after { rows_in rows.new passes ≡ first_rows (session s.now) passes passes }
-    ensures rows_unchanged { drop (row_bytes * passes) rows.new ≡ drop (row_bytes * passes) rows.old }
-{
-    let mut actions: usize = 0;
-    let mut k = 0u32;
-    while k < passes {
-        let row = next_row(s, k, passes, discards, actions);
-        let numbers = row.numbers;
-        write_numbers(rows, ROW_BYTES * (k as usize), ROW_NUMBERS, &numbers);
-        actions = row.actions;
-        k += 1;
+impl<'a> Iterator for Walk<'a> {
+    type Item = [u32; ROW_NUMBERS];
+
+    ghost next_gives = { YieldsFirst (λ w. w) };
+
+    ghost remaining = { item_count (λ w. w) };
+
+    fn next(&mut self) -> Option<[u32; ROW_NUMBERS]> {
+        let k = self.k;
+        if k >= self.passes {
+            return None;
+        }
+        let row = next_row(
+            self.session,
+            k,
+            self.passes,
+            &mut self.discards,
+            self.actions,
+        );
+        self.actions = row.actions;
+        self.k = k + 1;
+        Some(row.numbers)
     }
 }
 
 // The rows of a readable session as bytes; the bytes past them stay.
 pub fn session_rows(s: &[u8], rows: &mut [u8])
     requires { (session_refusal s.now ≡ 0) × (rows_bytes ≤ length rows.old) }
-    ensures rows_after { let S = session s.now in
-        rows_in rows.new S.pass_count ≡ first_rows S S.pass_count S.pass_count }
-    ensures rows_after_2 { let end = row_bytes * (session s.now).pass_count in
+    ensures written { rows_in rows.new (session s.now).pass_count ≡ deskcheck s.now }
+    ensures behind { let end = row_bytes * (session s.now).pass_count in
         drop end rows.new ≡ drop end rows.old }
 {
-    let mut discards: [u8; DISCARDS_BYTES] = [0; DISCARDS_BYTES];
-    put_rows(s, pass_count(s), rows, &mut discards);
+    let mut at: usize = 0;
+    for row in Walk::new(s) {
+        write_numbers(rows, at, &row);
+        at += ROW_BYTES;
+    }
 }

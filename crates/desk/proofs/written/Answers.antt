@@ -7,4 +7,4 @@ use Rattle.desk.proofs.written.Goals as goal
 pub returns : goal.returns
 returns c =
     let rows = c.session_rows.ensures in
-    whole_read _ _ _ (omega (arith, c.if-rows-lt-ROWS_BYTES.false)) (sym c.in_ok-validate_session.ensures) rows.rows_after rows.rows_after_2
+    whole_read _ _ _ (omega (arith, c.if-rows-lt-ROWS_BYTES.false)) (sym c.in_ok-validate_session.ensures) rows.written rows.behind

@@ -7,22 +7,24 @@ use Rattle.whole_session.proofs.next_row.Goals as goal
 
 pub summarize-said-requires : goal.summarize-said-requires
 summarize-said-requires c =
-    let read = tested _ c.requires.s_value.0 in
+    let read = tested _ c.requires.there.0 in
     rw c.pass_row-pass.ensures.session
     (record { textures = read.textures; views = read.views; held = c.requires.reached.held; actions = c.requires.reached.few })
 
-pub returns-then-not-ends_buffer : goal.returns-then-not-ends_buffer
-returns-then-not-ends_buffer c =
+pub returns-then-ends_buffer : goal.returns-then-ends_buffer
+returns-then-ends_buffer c =
     let row = c.pass_row-pass.ensures in
+    let said = simp row.pass at c.summarize-said.ensures in
     record {
-      row = row_told _ _ _ _ _ c.requires.reached _ _ (simp (row.session, row.pass) at c.summarize-said.ensures) _ c.count.ensures;
-      next = next_on _ _ _ _ _ c.requires.reached _ _ (simp (row.session, row.pass) at c.summarize-said.ensures) (simp (row.session, row.pass) at (sym c.ends_buffer.ensures ∙ c.if-not-ends_buffer.true));
+      row = row_told _ _ _ _ _ c.requires.reached _ _ said _ c.count.ensures;
+      next = next_ended _ _ _ _ _ c.requires.reached _ _ said _ (simp (row.session, row.pass) at (sym c.ends_buffer.ensures ∙ c.if-ends_buffer.true)) (search rules) c.set_count.ensures;
     }
 
-pub returns : goal.returns
-returns c =
+pub returns-else-ends_buffer : goal.returns-else-ends_buffer
+returns-else-ends_buffer c =
     let row = c.pass_row-pass.ensures in
+    let said = simp row.pass at c.summarize-said.ensures in
     record {
-      row = row_told _ _ _ _ _ c.requires.reached _ _ (simp (row.session, row.pass) at c.summarize-said.ensures) _ c.count.ensures;
-      next = next_ended _ _ _ _ _ c.requires.reached _ _ (simp (row.session, row.pass) at c.summarize-said.ensures) _ (simp (row.session, row.pass) at (sym c.ends_buffer.ensures ∙ c.if-not-ends_buffer.false)) (search rules) c.set_count.ensures;
+      row = row_told _ _ _ _ _ c.requires.reached _ _ said _ c.count.ensures;
+      next = next_on _ _ _ _ _ c.requires.reached _ _ said (simp (row.session, row.pass) at (sym c.ends_buffer.ensures ∙ c.if-ends_buffer.false));
     }
