@@ -27,7 +27,7 @@ const SURFACE: u32 = SURFACE_NUMBERS as u32;
 
 // What is left of an answer whose next word is this one.
 #[tactic(auto, unfolding(crate::specs::Words::next_word))]
-pub fn word(list: &[u8], w: u32) -> Option<&[u8]>
+fn word(list: &[u8], w: u32) -> Option<&[u8]>
     ensures { option_copied result ≡ next_word list.now w }
 {
     if (list.len() < WORD_BYTES) | (u32_at(list, 0) != w) {
