@@ -1,14 +1,12 @@
 // The words of an answer: a reply to a pass, held to the next words of a list of answers. harness/README.md has the list's form.
 #![tactic(auto)]
 
-ghost use Rattle.std.specs.Prelude.{◌≡◌, ◌<◌, take, option_copied};
+ghost use Rattle.std.specs.Prelude.{◌≡◌, ◌<◌, option_copied};
 ghost use Rattle.definition.specs.Sizes.{max_passes};
 ghost use Rattle.whole_session.specs.Numbers.{numbers_at};
 ghost use Rattle.answer_words.specs.Words.{next_word, next_words, double_words, color_words, attachment_words, attachments_words, line_words, rest_words, withheld, numbers_of, next_reply};
 
-use definition::sizes::{
-    COUNT_BYTES, MAX_ATTACHMENTS, MAX_CLEARS, ROW_BYTES, ROW_NUMBERS, SURFACE_NUMBERS,
-};
+use definition::sizes::{COUNT_BYTES, MAX_CLEARS, ROW_BYTES, ROW_NUMBERS, SURFACE_NUMBERS};
 use definition::{Attachment, Color};
 use encoding::{bits_of_f32, bits_of_f64, u32_at};
 use render_pass::Reply;
@@ -27,7 +25,7 @@ const SURFACE: u32 = SURFACE_NUMBERS as u32;
 
 // What is left of an answer whose next word is this one.
 #[tactic(auto, unfolding(crate::specs::Words::next_word))]
-pub fn word(list: &[u8], w: u32) -> Option<&[u8]>
+fn word(list: &[u8], w: u32) -> Option<&[u8]>
     ensures { option_copied result ≡ next_word list.now w }
 {
     if (list.len() < WORD_BYTES) | (u32_at(list, 0) != w) {

@@ -1,5 +1,5 @@
 -- A column more in front, and what is behind it is as it was.
-use Rattle.std.proofs.Common.{◌≡◌, ◌+◌, ◌-◌, ◌*◌, ◌≤◌, length, refl, ap, ◌∙◌, take, drop, arith}
+use Rattle.std.proofs.Common.{ℕ, ◌≡◌, ◌+◌, ◌-◌, ◌*◌, ◌≤◌, length, refl, ap, ◌∙◌, take, drop, arith}
 use native.Mathlib.Nat.{mul-zero}
 use lib.ListN.{length-drop}
 use lib.Seq.{length-take-le}
@@ -9,7 +9,7 @@ use Rattle.columns.proofs.transpose.Goals as goal
 
 pub loop-j-init : goal.loop-j-init
 unfolding columns
-loop-j-init c = record { in_front = rw (mul-zero c.args.r) refl; behind = refl }
+loop-j-init c = record { in_front = ap (λ (k : ℕ). take k c.args.out.now) (mul-zero c.args.r); behind = refl }
 
 pub loop-j-preserved : goal.loop-j-preserved
 loop-j-preserved c =
