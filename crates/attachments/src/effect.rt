@@ -2,19 +2,16 @@
 // Every function is total, and its contract is an equation with the definition, under the translations of specs/.
 ghost use Rattle.std.specs.Prelude.{◌≡◌, cond, not, false};
 ghost use Rattle.std.proofs.Math.Option.{some};
-ghost use Rattle.channel.specs.Color as Co;
-ghost use Rattle.channel.specs.Kind.{operations_in};
-ghost use Rattle.depth_stencil.specs.Depth as De;
-ghost use Rattle.depth_stencil.specs.Stencil as St;
+ghost use Rattle.definition.specs.Attachments.{by_depth};
+ghost use Rattle.channel.specs.Operations.{ops_in};
+ghost use Rattle.channel.specs.Pass.{resolved_in};
 ghost use Rattle.memory_init.specs.Plans.{init_kind};
-ghost use Rattle.attachments.specs.Effect.{aspect_in, aspect_by, kind_by, has_effect, regular_effect, by_first, diverged_effect, depth_stencil_effect, usage_by};
+ghost use Rattle.attachments.specs.Effect.{aspect_in, aspect_by, kind_by, has_effect, regular_effect, diverged_effect, depth_stencil_effect, usage_by};
 ghost use Rattle.definition.specs.declared.MemoryInitKind.TheVariants.{ImplicitlyInitialized};
 
-use channel::color::ColorOps;
-use channel::{Operations, ignores, loads, stores};
+use channel::Operations;
+use channel::pass::ResolvedPassChannel;
 use definition::MemoryInitKind;
-use depth_stencil::depth::ResolvedDepth;
-use depth_stencil::stencil::ResolvedStencil;
 
 // Usages are numbers, as the reply has them: nothing here asks which usage one is.
 // TextureUses::COLOR_TARGET.
@@ -79,20 +76,11 @@ fn add_pass_texture_init_actions(loads: bool, keeps: bool) -> Effect
     }
 }
 
-// The effect of one channel alone.
-fn regular_effect(ops: Operations) -> Effect
-    ensures { regular_effect result (operations_in ops) }
+// The effect of a colour, or of one channel alone.
+pub fn regular_effect<V: Copy>(ops: Operations<V>) -> Effect
+    ensures { regular_effect result (ops_in ops) }
 {
-    let load = ops.load;
-    let store = ops.store;
-    add_pass_texture_init_actions(loads(load), stores(store))
-}
-
-// The effect of a colour attachment.
-pub fn color_effect(ops: ColorOps) -> Effect
-    ensures { regular_effect result (Co.ops_in ops) }
-{
-    regular_effect(ops.operations())
+    add_pass_texture_init_actions(ops.load.loads(), ops.store.stores())
 }
 
 // The effect of a resolve target, which is written whole.
@@ -107,24 +95,20 @@ pub fn resolve_effect() -> Effect
 }
 
 // Whether the depth channel decides for both: the format has no stencil, or both load and store alike.
-fn by_depth(has_stencil: bool, depth: Operations, stencil: Operations) -> bool
-    ensures { result ≡ by_first has_stencil (operations_in depth) (operations_in stencil) }
+fn by_depth(has_stencil: bool, depth: Operations<f32>, stencil: Operations<u32>) -> bool
+    ensures { result ≡ by_depth has_stencil (ops_in depth) (ops_in stencil) }
 {
-    let d = depth.load;
-    let s = stencil.load;
-    let alike = (loads(s) == loads(d)) & (ignores(s) == ignores(d));
-    let d = depth.store;
-    let s = stencil.store;
-    (!has_stencil) | (alike & (stores(s) == stores(d)))
+    let alike = stencil.load.eq_variant(depth.load) & (stencil.store == depth.store);
+    (!has_stencil) | alike
 }
 
 // Of two channels that differ: a needed action if one of them loads, an implicit one if one of them stores.
-fn diverged_effect(depth: Operations, stencil: Operations) -> Effect
-    ensures { diverged_effect result (operations_in depth) (operations_in stencil) }
+fn diverged_effect(depth: Operations<f32>, stencil: Operations<u32>) -> Effect
+    ensures { diverged_effect result (ops_in depth) (ops_in stencil) }
 {
-    let loads = loads(depth.load) | loads(stencil.load);
-    let d = stores(depth.store);
-    let s = stores(stencil.store);
+    let loads = depth.load.loads() | stencil.load.loads();
+    let d = depth.store.stores();
+    let s = stencil.store.stores();
     Effect {
         kind: kind_by(loads, d != s),
         discards: (!d) & (!s),
@@ -133,13 +117,14 @@ fn diverged_effect(depth: Operations, stencil: Operations) -> Effect
 }
 
 // The depth-stencil part of start, for the aspects of the format.
+#[tactic(auto, unfolding(definition::specs::Attachments::depth_stencil_kind, definition::specs::Attachments::depth_stencil_discards, definition::specs::Attachments::depth_stencil_divergent))]
 pub fn depth_stencil_effect(
     has_depth: bool,
     has_stencil: bool,
-    depth: ResolvedDepth,
-    stencil: ResolvedStencil,
+    depth: ResolvedPassChannel<f32>,
+    stencil: ResolvedPassChannel<u32>,
 ) -> Effect
-    ensures { depth_stencil_effect result has_depth has_stencil (De.ops_in depth) (St.ops_in stencil) }
+    ensures { depth_stencil_effect result has_depth has_stencil (resolved_in depth) (resolved_in stencil) }
 {
     let d = depth.operations();
     let s = stencil.operations();
@@ -155,12 +140,12 @@ pub fn depth_stencil_effect(
 
 // The usage of a depth-stencil attachment: it is read where both channels are read-only and the feature is there.
 pub fn depth_stencil_usage(
-    depth: ResolvedDepth,
-    stencil: ResolvedStencil,
+    depth: ResolvedPassChannel<f32>,
+    stencil: ResolvedPassChannel<u32>,
     feature: bool,
     binding: bool,
 ) -> u32
-    ensures { result ≡ usage_by (De.ops_in depth).read_only (St.ops_in stencil).read_only feature binding }
+    ensures { result ≡ usage_by (resolved_in depth).read_only (resolved_in stencil).read_only feature binding }
 {
     if !(depth.is_readonly() & stencil.is_readonly() & feature) {
         DEPTH_STENCIL_WRITE

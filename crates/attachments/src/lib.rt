@@ -13,19 +13,18 @@ ghost use Rattle.definition.specs.Session.{Session, session};
 ghost use Rattle.definition.specs.Attachments as At;
 ghost use Rattle.definition.specs.Pass.{attachment_reply, depth_stencil_usage, depth_stencil_reply};
 ghost use Rattle.definition.specs.declared.Range as Ra;
-ghost use Rattle.depth_stencil.specs.Depth as De;
-ghost use Rattle.depth_stencil.specs.Stencil as St;
+ghost use Rattle.channel.specs.Pass.{resolved_in};
 ghost use Rattle.laws.specs.Plans.{plan_of};
 ghost use Rattle.session.specs.Rows.{pass_in, session_in};
 ghost use Rattle.memory_init.specs.Plans.{plan_in};
 ghost use Rattle.attachments.specs.Attached.{Present, PartOf, blank};
 
 use channel::color::ops_of;
+use channel::pass::{ResolvedPassChannel, or_read_only};
 use definition::{Attachment, Range, Slot, View, black};
-use depth_stencil::depth::{ResolvedDepth, depth_resolved};
-use depth_stencil::stencil::{ResolvedStencil, stencil_resolved};
+use depth_stencil::{depth_resolved, stencil_resolved};
 use effect::{
-    Aspect, COLOR_TARGET, color_effect, depth_stencil_effect, depth_stencil_usage, resolve_effect,
+    Aspect, COLOR_TARGET, depth_stencil_effect, depth_stencil_usage, regular_effect, resolve_effect,
 };
 use formats::{has_depth, has_stencil};
 use memory_init::Planned;
@@ -63,24 +62,27 @@ pub fn empty_reply() -> Attachment
 // ── depth-stencil
 
 // The depth channel of a pass, resolved for a format.
-fn depth_ops(pass: &PassRow, format: u32) -> ResolvedDepth
-    ensures { De.ops_in result ≡ At.depth_ops (session_in pass.now) (pass_in pass.now) format }
+fn depth_ops(pass: &PassRow, format: u32) -> ResolvedPassChannel<f32>
+    ensures { resolved_in result ≡ At.depth_ops (session_in pass.now) (pass_in pass.now) format }
 {
-    let answer = depth_resolved(has_depth(format), strict(pass.session), pass.depth());
-    answer.channel()
+    or_read_only(depth_resolved(has_depth(format), strict(pass.session), pass.depth()))
 }
 
 // Its stencil channel.
-fn stencil_ops(pass: &PassRow, format: u32) -> ResolvedStencil
-    ensures { St.ops_in result ≡ At.stencil_ops (session_in pass.now) (pass_in pass.now) format }
+fn stencil_ops(pass: &PassRow, format: u32) -> ResolvedPassChannel<u32>
+    ensures { resolved_in result ≡ At.stencil_ops (session_in pass.now) (pass_in pass.now) format }
 {
-    let answer = stencil_resolved(has_stencil(format), strict(pass.session), pass.stencil());
-    answer.channel()
+    or_read_only(stencil_resolved(has_stencil(format), strict(pass.session), pass.stencil()))
 }
 
 // The usage of a depth-stencil view v.
-fn usage_of(s: &[u8], v: View, depth: ResolvedDepth, stencil: ResolvedStencil) -> u32
-    ensures { result ≡ depth_stencil_usage (session s.now) v (De.ops_in depth).read_only (St.ops_in stencil).read_only }
+fn usage_of(
+    s: &[u8],
+    v: View,
+    depth: ResolvedPassChannel<f32>,
+    stencil: ResolvedPassChannel<u32>,
+) -> u32
+    ensures { result ≡ depth_stencil_usage (session s.now) v (resolved_in depth).read_only (resolved_in stencil).read_only }
 {
     depth_stencil_usage(
         depth,
@@ -94,10 +96,10 @@ fn usage_of(s: &[u8], v: View, depth: ResolvedDepth, stencil: ResolvedStencil) -
 fn depth_stencil_reply(
     k: u32,
     usage: u32,
-    depth: ResolvedDepth,
-    stencil: ResolvedStencil,
+    depth: ResolvedPassChannel<f32>,
+    stencil: ResolvedPassChannel<u32>,
 ) -> Attachment
-    ensures { result ≡ depth_stencil_reply k usage (De.ops_in depth) (St.ops_in stencil) }
+    ensures { result ≡ depth_stencil_reply k usage (resolved_in depth) (resolved_in stencil) }
 {
     Attachment {
         view: k,
@@ -115,12 +117,12 @@ fn depth_stencil_of(
     s: &[u8],
     k: u32,
     format: u32,
-    depth: ResolvedDepth,
-    stencil: ResolvedStencil,
+    depth: ResolvedPassChannel<f32>,
+    stencil: ResolvedPassChannel<u32>,
 ) -> DepthStencilPart
     ensures { let S = session s.now in
         let range = Se.view_range (S.view k) in
-        Present S result (At.depth_stencil k range (has_depth format) (has_stencil format) (De.ops_in depth) (St.ops_in stencil)) }
+        Present S result (At.depth_stencil k range (has_depth format) (has_stencil format) (resolved_in depth) (resolved_in stencil)) }
 {
     let v = view(s, k);
     let effect = depth_stencil_effect(has_depth(format), has_stencil(format), depth, stencil);
@@ -179,7 +181,7 @@ pub fn depth_stencil_part(pass: &PassRow) -> Option<DepthStencilPart>
 pub fn color_planned(s: &[u8], c: Slot) -> Planned
     ensures { plan_in result ≡ plan_of (At.color_of (session s.now) c) }
 {
-    let effect = color_effect(ops_of(c));
+    let effect = regular_effect(ops_of(c));
     Planned {
         range: slice_range(view(s, c.view), c.slice),
         kind: effect.kind,

@@ -1,3 +1,1 @@
-pub mod Kind
-pub mod Asked
 pub mod Resolve

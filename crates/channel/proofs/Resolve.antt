@@ -1,106 +1,16 @@
--- The ways through resolve without a value; and that the value can be put in afterwards.
-use mathlib.Core.Path.{◌≡◌, refl, ap, ◌∙◌}
-use mathlib.Core.Bool.{Bool, true, false, cond}
+-- A channel without its aspect has no operations.
+use mathlib.Core.Path.{◌≡◌, refl, ◌∙◌}
+use mathlib.Core.Bool.{Bool}
 use mathlib.Core.Option.{Option, none, some}
 use Prim.Native.Nat.{ℕ}
-use Rattle.definition.specs.declared.Verdict.{Verdict}
-use Rattle.definition.specs.Channel.{LoadOp, load_op, clear_op, dont_care, PassChannel, Handled, value, refusal, Resolved, refused, with_store, with_clear, resolve_read_only, resolve_ops, resolve, absent_pair, resolve_absent, transient_pair, transient_channel}
-use Rattle.channel.specs.Asked.{given, asked_field, asked_clear, asked_channel}
-use Rattle.channel.specs.Kind.{kind_field, kinds, valued, valued_handled, valued_answer, always, without_ops, resolved_for}
+use Rattle.definition.specs.Channel.{LoadOp, PassChannel, Resolved, absent_pair, resolve_absent}
+use Rattle.channel.specs.Pass.{without_ops}
 
--- ── without operations
+by_operations : {X Y : Type 0} (l : Option (LoadOp X)) (s : Option Bool) (n : ℕ) → without_ops {Y = Y} l s n n ≡ absent_pair l s n
+by_operations (some l) s n = refl
+by_operations none (some keep) n = refl
+by_operations none none n = refl
 
-read_only_pair : {X Y : Type 0} (l : Option (LoadOp X)) (s : Option Bool) → without_ops {Y = Y} l s 18 19 ≡ resolve_read_only l s
-read_only_pair (some l) s = refl
-read_only_pair none (some keep) = refl
-read_only_pair none none = refl
-
-absent_pair_lem : {X Y : Type 0} (l : Option (LoadOp X)) (s : Option Bool) (n : ℕ) → without_ops {Y = Y} l s n n ≡ absent_pair l s n
-absent_pair_lem (some l) s n = refl
-absent_pair_lem none (some keep) n = refl
-absent_pair_lem none none n = refl
-
--- A read-only channel has no operations.
-pub read_only_lem : {X Y : Type 0} {a : Resolved Y} (h : X → Handled Y) (strict : Bool) (c : PassChannel X)
-    → c.read_only ≡ true → a ≡ without_ops c.load c.store 18 19 → a ≡ resolve h strict c
-unfolding resolve
-read_only_lem h strict c e f = f ∙ read_only_pair c.load c.store ∙ simp e
-
--- Any other has both.
-pub operational : {X Y : Type 0} {a : Resolved Y} (h : X → Handled Y) (strict : Bool) (c : PassChannel X)
-    → c.read_only ≡ false → a ≡ resolve_ops h strict c.load c.store → a ≡ resolve h strict c
-unfolding resolve
-operational h strict c e f = f ∙ simp e
-
--- A channel without its aspect has no operations.
 pub absent : {X Y : Type 0} {a : Resolved Y} (c : PassChannel X) (n : ℕ) → a ≡ without_ops c.load c.store n n → a ≡ resolve_absent c n
 unfolding resolve_absent
-absent c n f = f ∙ absent_pair_lem c.load c.store n
-
--- ── the value put in
-
-transient_pair_lem : {X : Type 0} (l : Option (LoadOp X)) (s : Option Bool) (r : Bool) (n m : ℕ) → transient_pair (kind_field l) s r n m ≡ transient_pair l s r n m
-transient_pair_lem none s r n m = refl
-transient_pair_lem (some l) none r n m = refl
-transient_pair_lem (some load_op) (some keep) r n m = refl
-transient_pair_lem (some (clear_op x)) (some keep) r n m = refl
-transient_pair_lem (some dont_care) (some keep) r n m = refl
-
-transient_kinds : {X : Type 0} (c : PassChannel X) (n m : ℕ) → transient_channel (kinds c) n m ≡ transient_channel c n m
-unfolding transient_channel
-transient_kinds c n m = transient_pair_lem c.load c.store c.read_only n m
-
--- 14 to 17 do not ask for the value.
-pub transient_of : {X : Type 0} {v : Verdict} {p : PassChannel (Unit {0})} (c d : PassChannel X) (n m : ℕ)
-    → c ≡ d → p ≡ kinds c → v ≡ transient_channel p n m → v ≡ transient_channel d n m
-transient_of c d n m e f g = g ∙ ap (λ p. transient_channel p n m) f ∙ transient_kinds c n m ∙ ap (λ c. transient_channel c n m) e
-
-absent_valued : {X Y : Type 0} (y : Y) (l : Option (LoadOp X)) (s : Option Bool) (n : ℕ) → valued_answer y (absent_pair (kind_field l) s n) ≡ absent_pair l s n
-absent_valued y (some l) s n = refl
-absent_valued y none (some keep) n = refl
-absent_valued y none none n = refl
-
-read_only_valued : {X Y : Type 0} (y : Y) (l : Option (LoadOp X)) (s : Option Bool) → valued_answer y (resolve_read_only (kind_field l) s) ≡ resolve_read_only l s
-read_only_valued y (some l) s = refl
-read_only_valued y none (some keep) = refl
-read_only_valued y none none = refl
-
-store_valued : {Y : Type 0} (y : Y) (l : LoadOp (Unit {0})) (s : Option Bool) → valued_answer y (with_store l s) ≡ with_store (valued y l) s
-store_valued y l none = refl
-store_valued y l (some keep) = refl
-
-clear_valued : {Y : Type 0} (y : Y) (g : Handled (Unit {0})) (s : Option Bool) → valued_answer y (with_clear g s) ≡ with_clear (valued_handled y g) s
-clear_valued y (value u) s = store_valued y (clear_op u) s
-clear_valued y (refusal n) s = refl
-
-strict_valued : {Y : Type 0} (y : Y) (strict : Bool) (s : Option Bool)
-    → valued_answer y (cond strict (refused 23) (with_store dont_care s)) ≡ cond strict (refused 23) (with_store dont_care s)
-strict_valued y true s = refl
-strict_valued y false s = store_valued y dont_care s
-
-module _ {X Y : Type 0} (h : Option X → Handled Y) (strict b : Bool) (o : X) (y : Y) (g : Handled (Unit {0})) where
-  ops_valued : (l : Option (LoadOp X)) (s : Option Bool) → valued_handled y g ≡ h (given b (asked_clear o l))
-      → valued_answer y (resolve_ops (always g) strict (kind_field (asked_field b l)) s) ≡ resolve_ops h strict (asked_field b l) s
-  ops_valued none s e = refl
-  ops_valued (some load_op) s e = store_valued y load_op s
-  ops_valued (some (clear_op x)) s e = clear_valued y g s ∙ ap (λ h. with_clear h s) e
-  ops_valued (some dont_care) s e = strict_valued y strict s
-
-  by_read_only : (l : Option (LoadOp X)) (s : Option Bool) (r : Bool) → valued_handled y g ≡ h (given b (asked_clear o l))
-      → valued_answer y (resolve (always g) strict (kinds (asked_channel b l s r))) ≡ resolve h strict (asked_channel b l s r)
-  unfolding resolve
-  by_read_only l s true e = read_only_valued y (asked_field b l) s
-  by_read_only l s false e = ops_valued l s e
-
-  by_aspect : (has : Bool) (n : ℕ) (l : Option (LoadOp X)) (s : Option Bool) (r : Bool) → valued_handled y g ≡ h (given b (asked_clear o l))
-      → valued_answer y (resolved_for (always g) n has strict (kinds (asked_channel b l s r))) ≡ resolved_for h n has strict (asked_channel b l s r)
-  unfolding resolved_for resolve_absent
-  by_aspect true n l s r e = by_read_only l s r e
-  by_aspect false n l s r e = absent_valued y (asked_field b l) s n
-
-  -- A channel resolved without its value, with the value put in, is resolved.
-  pub resolve_valued : {r : Resolved Y} {a : Resolved (Unit {0})} {p : PassChannel (Unit {0})} {x : X} (has : Bool) (n : ℕ) (l : Option (LoadOp X)) (s : Option Bool) (read_only : Bool)
-      → x ≡ asked_clear o l → valued_handled y g ≡ h (given b x) → p ≡ kinds (asked_channel b l s read_only)
-      → a ≡ resolved_for (always g) n has strict p → r ≡ valued_answer y a → r ≡ resolved_for h n has strict (asked_channel b l s read_only)
-  resolve_valued has n l s read_only ex eg ep ea er =
-      er ∙ ap (valued_answer y) (ea ∙ ap (resolved_for (always g) n has strict) ep) ∙ by_aspect has n l s read_only (eg ∙ ap (λ x. h (given b x)) ex)
+absent c n e = e ∙ by_operations c.load c.store n

@@ -1,5 +1,2 @@
-pub mod Store
-pub mod Kind
+pub mod Operations
 pub mod Pass
-pub mod Asked
-pub mod Color

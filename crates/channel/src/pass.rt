@@ -1,151 +1,184 @@
-// A channel as a pass gives it, without the value of a Clear: 14 to 26. What is made of the value is handed in.
-// Every function is total, and its contract is an equation with the definition at the type of one value.
+// A channel as a pass gives it, and what it resolves to: 14 to 26. What is made of a clear value is handed in.
 ghost use Rattle.std.specs.Prelude.{◌≡◌};
 ghost use Rattle.definition.specs.Channel as Ch;
+ghost use Rattle.definition.specs.Pass.{ops_bits};
 ghost use Rattle.definition.specs.Refusals.{number_of};
-ghost use Rattle.channel.specs.Store.{store_in};
-ghost use Rattle.channel.specs.Kind.{kind_in, always, without_ops, resolved_for};
-ghost use Rattle.channel.specs.Pass.{pass_in, handled_in, answer_in};
+ghost use Rattle.channel.specs.Operations.{store_in, ops_in};
+ghost use Rattle.channel.specs.Pass.{option_in, field_in, channel_in, Handles, resolved_in, answer_in, without_ops};
 
-use crate::{LoadField, LoadKind, Operations, StoreField, check_transient_attachment_ops};
-use definition::Verdict;
+use crate::{LoadOp, Operations, StoreOp, check_transient_attachment_ops};
 use definition::refusals::Refusal;
-use definition::verdicts::{AT_DEPTH_STENCIL, unless};
+use definition::verdicts::{AT_DEPTH_STENCIL, accepted, refused_at, unless};
+use definition::{Channel, Verdict};
 
 // PassChannel<V>.
 #[derive(Clone, Copy)]
-pub struct PassChannel {
-    pub load: LoadField,
-    pub store: StoreField,
-    pub readonly: bool,
+pub struct PassChannel<V> {
+    pub load_op: Option<LoadOp<V>>,
+    pub store_op: Option<StoreOp>,
+    pub read_only: bool,
 }
 
-// What is made of a clear value: a value, or why it is refused.
+// ResolvedPassChannel<V>.
 #[derive(Clone, Copy)]
-pub enum Handled {
-    Value,
-    Refusal(Refusal),
+pub enum ResolvedPassChannel<V> {
+    ReadOnly,
+    Operational(Operations<V>),
 }
 
 // A resolved channel, or why it is refused.
-#[derive(Clone, Copy)]
-pub enum Answer {
-    Refused(Refusal),
-    ReadOnly,
-    Operational(Operations),
+pub type Resolved<V> = Result<ResolvedPassChannel<V>, Refusal>;
+
+// ── by the row's numbers
+
+// By the field's number: 0 Load, 1 Clear, 2 DontCare, 3 absent.
+fn load_field<V: Copy>(n: u32, clear: Option<V>) -> Option<LoadOp<Option<V>>>
+    ensures { field_in result ≡ Ch.load_field n (option_in clear) }
+{
+    (n < 3).then_some(LoadOp::of(n, clear))
 }
 
-// 24 without a store.
-fn with_store(load: LoadKind, store: StoreField) -> Answer
-    ensures { answer_in result ≡ Ch.with_store (kind_in load) (store_in store) }
+// By the field's number: 0 Store, 1 Discard, 2 absent.
+fn store_field(n: u32) -> Option<StoreOp>
+    ensures { store_in result ≡ Ch.store_field n }
 {
-    let StoreField::Is(op) = store else {
-        return Answer::Refused(Refusal::NoStore);
-    };
-    Answer::Operational(Operations {
-        load: load,
-        store: op,
-    })
+    (n < 2).then_some(StoreOp::from(n))
 }
 
-// A value that is refused refuses the channel.
-fn with_clear(clear: Handled, store: StoreField) -> Answer
-    ensures { answer_in result ≡ Ch.with_clear (handled_in clear) (store_in store) }
+// A channel by its row, with this clear value if one is given.
+pub fn channel_of<V: Copy>(c: Channel, clear: V) -> PassChannel<Option<V>>
+    ensures { channel_in result ≡ Ch.channel_of (λ _. clear) c }
 {
-    match clear {
-        Handled::Value => with_store(LoadKind::Clear, store),
-        Handled::Refusal(n) => Answer::Refused(n),
+    PassChannel {
+        load_op: load_field(c.load, (c.given == 1).then_some(clear)),
+        store_op: store_field(c.store),
+        read_only: c.readonly == 1,
     }
 }
 
-impl PassChannel {
-    // Of a transient attachment: n where both operations are given and are not Clear or DontCare with Discard,
-    // m where one is absent and the channel is read-only.
+// ── checked and resolved
+
+impl<V: Copy> PassChannel<Option<V>> {
+    // Of a transient attachment: `lasting` where both operations are given and are not Clear or DontCare with Discard,
+    // `read_only` where one is absent and the channel is read-only.
     #[tactic(auto, unfolding(definition::specs::Channel::transient_channel))]
-    pub fn check_transient(self, n: Refusal, m: Refusal) -> Verdict
-        ensures { result ≡ Ch.transient_channel (pass_in self) (number_of n) (number_of m) }
+    pub fn check_transient(self, lasting: Refusal, read_only: Refusal) -> Verdict
+        ensures { result ≡ Ch.transient_channel (channel_in self) (number_of lasting) (number_of read_only) }
     {
-        let load = self.load;
-        let store = self.store;
-        let lasting = unless(!self.readonly, m, AT_DEPTH_STENCIL);
-        let LoadField::Is(load_op) = load else {
-            return lasting;
-        };
-        let StoreField::Is(store_op) = store else {
-            return lasting;
-        };
-        unless(
-            check_transient_attachment_ops(load_op, store_op),
-            n,
-            AT_DEPTH_STENCIL,
-        )
-    }
-
-    // Read-only, unless it has a load (n) or a store (m).
-    fn without_ops(self, n: Refusal, m: Refusal) -> Answer
-        ensures { answer_in result ≡ without_ops (pass_in self).load (pass_in self).store (number_of n) (number_of m) }
-    {
-        let load = self.load;
-        let store = self.store;
-        let LoadField::Absent = load else {
-            return Answer::Refused(n);
-        };
-        let StoreField::Absent = store else {
-            return Answer::Refused(m);
-        };
-        Answer::ReadOnly
-    }
-
-    // 20 without a load; a Clear's value is handled; 23 for a strict DontCare; 24 without a store.
-    fn resolve_ops(self, clear: Handled, strict: bool) -> Answer
-        ensures { answer_in result ≡ Ch.resolve_ops (always (handled_in clear)) strict (pass_in self).load (pass_in self).store }
-    {
-        let load = self.load;
-        let store = self.store;
-        let LoadField::Is(op) = load else {
-            return Answer::Refused(Refusal::NoLoad);
-        };
-        match op {
-            LoadKind::Load => with_store(LoadKind::Load, store),
-            LoadKind::Clear => with_clear(clear, store),
-            LoadKind::DontCare => {
-                if strict {
-                    return Answer::Refused(Refusal::ChannelDontCare);
-                }
-                with_store(LoadKind::DontCare, store)
-            }
+        match (self.load_op, self.store_op) {
+            (Some(load), Some(store)) => unless(
+                check_transient_attachment_ops(load, store),
+                lasting,
+                AT_DEPTH_STENCIL,
+            ),
+            _ => unless(!self.read_only, read_only, AT_DEPTH_STENCIL),
         }
     }
 
-    // 18 to 24. A read-only channel has no operations.
-    #[tactic(auto, using(crate::proofs::Resolve::read_only_lem, crate::proofs::Resolve::operational))]
-    fn resolve_present(self, clear: Handled, strict: bool) -> Answer
-        ensures { answer_in result ≡ Ch.resolve (always (handled_in clear)) strict (pass_in self) }
+    // Read-only, unless it has a load or a store.
+    fn without_ops(self, with_load: Refusal, with_store: Refusal) -> Resolved<V>
+        ensures { answer_in result ≡ without_ops (channel_in self).load (channel_in self).store (number_of with_load) (number_of with_store) }
     {
-        if self.readonly {
-            self.without_ops(Refusal::ReadOnlyWithLoad, Refusal::ReadOnlyWithStore)
-        } else {
-            self.resolve_ops(clear, strict)
+        if self.load_op.is_some() {
+            return Err(with_load);
         }
+        if self.store_op.is_some() {
+            return Err(with_store);
+        }
+        Ok(ResolvedPassChannel::ReadOnly)
     }
 
-    // n with an operation: the format lacks the aspect.
+    // Of an aspect that the format lacks: refused with an operation.
     #[tactic(auto, using(crate::proofs::Resolve::absent))]
-    fn resolve_absent(self, n: Refusal) -> Answer
-        ensures { answer_in result ≡ Ch.resolve_absent (pass_in self) (number_of n) }
+    pub fn resolve_absent(self, refusal: Refusal) -> Resolved<V>
+        ensures { answer_in result ≡ Ch.resolve_absent (channel_in self) (number_of refusal) }
     {
-        self.without_ops(n, n)
+        self.without_ops(refusal, refusal)
     }
 
-    // Of an aspect that the format has or lacks: 18 to 24, or n.
-    #[tactic(auto, unfolding(crate::specs::Kind::resolved_for))]
-    pub fn resolve(self, has: bool, n: Refusal, clear: Handled, strict: bool) -> Answer
-        ensures { answer_in result ≡ resolved_for (always (handled_in clear)) (number_of n) has strict (pass_in self) }
+    // 18 to 24: a read-only channel has no operations, any other both. A Clear's value is handled.
+    #[tactic(auto, unfolding(definition::specs::Channel::resolve))]
+    pub fn resolve<H: Fn(Option<V>) -> Result<V, Refusal>>(
+        self,
+        strict: bool,
+        handle_clear: H,
+    ) -> Resolved<V>
+        requires { H.IsAlwaysCallable handle_clear }
+        ensures { (handle : _) → Handles (H.post handle_clear) handle → answer_in result ≡ Ch.resolve handle strict (channel_in self) }
     {
-        if has {
-            self.resolve_present(clear, strict)
-        } else {
-            self.resolve_absent(n)
+        if self.read_only {
+            return self.without_ops(Refusal::ReadOnlyWithLoad, Refusal::ReadOnlyWithStore);
         }
+        let load = match self.load_op.ok_or(Refusal::NoLoad)? {
+            LoadOp::Load => LoadOp::Load,
+            LoadOp::Clear(value) => LoadOp::Clear(handle_clear(value)?),
+            LoadOp::DontCare => {
+                if strict {
+                    return Err(Refusal::ChannelDontCare);
+                }
+                LoadOp::DontCare
+            }
+        };
+        Ok(ResolvedPassChannel::Operational(Operations {
+            load,
+            store: self.store_op.ok_or(Refusal::NoStore)?,
+        }))
+    }
+}
+
+// Fine for a channel, else its refusal.
+pub fn verdict_of<V: Copy>(answer: Resolved<V>) -> Verdict
+    ensures { result ≡ Ch.resolved_verdict (answer_in answer) }
+{
+    match answer {
+        Ok(_) => accepted(),
+        Err(refusal) => refused_at(refusal, AT_DEPTH_STENCIL),
+    }
+}
+
+// The channel. (Of a refused one nothing is asked.)
+pub fn or_read_only<V: Copy>(answer: Resolved<V>) -> ResolvedPassChannel<V>
+    ensures { resolved_in result ≡ Ch.resolved_ops (answer_in answer) }
+{
+    answer.unwrap_or(ResolvedPassChannel::ReadOnly)
+}
+
+// ── a resolved channel
+
+impl<V: Copy> ResolvedPassChannel<V> {
+    // Its operations: a read-only channel loads and stores.
+    pub fn operations(self) -> Operations<V>
+        ensures { ops_in result ≡ Ch.operational (resolved_in self).load (resolved_in self).keep }
+    {
+        let ResolvedPassChannel::Operational(ops) = self else {
+            return Operations {
+                load: LoadOp::Load,
+                store: StoreOp::Store,
+            };
+        };
+        ops
+    }
+
+    // The bits of its operations.
+    pub fn hal_ops(self) -> u32
+        ensures { result ≡ ops_bits (resolved_in self) }
+    {
+        self.operations().hal_ops()
+    }
+
+    // Whether the channel is only read.
+    pub fn is_readonly(self) -> bool
+        ensures { result ≡ (resolved_in self).read_only }
+    {
+        matches!(self, ResolvedPassChannel::ReadOnly)
+    }
+}
+
+impl<V: Copy + Default> ResolvedPassChannel<V> {
+    // A value that is not cleared is zero.
+    pub fn clear_value(self) -> V
+        ensures { (zero : _) × V.is_default zero × (result ≡ Ch.clear_value zero (resolved_in self).load) }
+    {
+        self.operations().load.clear_value_or(V::default())
     }
 }

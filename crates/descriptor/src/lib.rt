@@ -7,27 +7,28 @@ ghost use Rattle.definition.specs.Check as Ck;
 ghost use Rattle.definition.specs.Session.{session};
 ghost use Rattle.session.specs.Rows.{pass_in, session_in};
 
-use channel::{check_transient_attachment_ops, ignores, load_kind, store_op};
+use channel::pass::verdict_of;
+use channel::{LoadOp, StoreOp, check_transient_attachment_ops};
 use definition::refusals::Refusal;
 use definition::verdicts::{AT_DEPTH_STENCIL, NOWHERE, accepted, either, refused_at, then, unless};
 use definition::{Channel, Slot, Verdict};
-use depth_stencil::depth::{depth_channel, depth_resolved};
-use depth_stencil::stencil::{stencil_channel, stencil_resolved};
+use depth_stencil::{depth_channel, depth_resolved, stencil_channel, stencil_resolved};
 use formats::{has_depth, has_stencil, is_depth_stencil};
 use session::derived::{is_none, strict, transient};
 use session::header::max_colors;
 use session::{PassRow, view};
 
 // 11 and 12, of slot k.
+#[tactic(auto, unfolding(definition::specs::Check::slot_ops))]
 fn slot_ops(s: &[u8], c: Slot, k: u32) -> Verdict
     ensures { result ≡ Ck.slot_ops (session s.now) c k }
 {
     if is_none(c.view) {
         return accepted();
     }
-    let load = load_kind(c.load);
-    let store = store_op(c.store);
-    let cared = !(ignores(load) & strict(s));
+    let load = LoadOp::of(c.load, c.clear);
+    let store = StoreOp::from(c.store);
+    let cared = !(load.ignores() & strict(s));
     let lasting = !transient(view(s, c.view));
     let passing = check_transient_attachment_ops(load, store);
     then(
@@ -37,17 +38,22 @@ fn slot_ops(s: &[u8], c: Slot, k: u32) -> Verdict
 }
 
 // Of the first n slots, in order.
+#[tactic(auto, unfolding(definition::specs::Check::color_ops), using(session::proofs::Rows::without_ops_lem))]
 fn color_ops(pass: &PassRow, n: u32) -> Verdict
     ensures { result ≡ Ck.color_ops (session_in pass.now) (pass_in pass.now) n }
 {
     let mut judged = accepted();
     for k in 0..n {
-        judged = then(judged, slot_ops(pass.session, pass.slot_without_clear(k), k));
+        judged = then(
+            judged,
+            slot_ops(pass.session, pass.slot_without_clear(k), k),
+        );
     }
     judged
 }
 
 // 13 to 26, of a depth-stencil view of this format: 14 to 24 only for an aspect that it has.
+#[tactic(auto, unfolding(definition::specs::Check::channel_ops))]
 fn channel_ops(
     strict: bool,
     transient: bool,
@@ -66,20 +72,22 @@ fn channel_ops(
     );
     let passing_depth = either(
         transient & has_depth,
-        depth_channel(depth)
-            .asked()
-            .check_transient(Refusal::InvalidTransientDepthOps, Refusal::ReadOnlyTransientDepth),
+        depth_channel(depth).check_transient(
+            Refusal::InvalidTransientDepthOps,
+            Refusal::ReadOnlyTransientDepth,
+        ),
         accepted(),
     );
     let passing_stencil = either(
         transient & has_stencil,
-        stencil_channel(stencil)
-            .asked()
-            .check_transient(Refusal::InvalidTransientStencilOps, Refusal::ReadOnlyTransientStencil),
+        stencil_channel(stencil).check_transient(
+            Refusal::InvalidTransientStencilOps,
+            Refusal::ReadOnlyTransientStencil,
+        ),
         accepted(),
     );
-    let depth_ops = depth_resolved(has_depth, strict, depth).verdict();
-    let stencil_ops = stencil_resolved(has_stencil, strict, stencil).verdict();
+    let depth_ops = verdict_of(depth_resolved(has_depth, strict, depth));
+    let stencil_ops = verdict_of(stencil_resolved(has_stencil, strict, stencil));
     let resolved = then(depth_ops, stencil_ops);
     then(
         aspects,

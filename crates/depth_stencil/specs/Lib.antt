@@ -1,2 +1,0 @@
-pub mod Depth
-pub mod Stencil
