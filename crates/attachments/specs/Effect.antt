@@ -34,6 +34,7 @@ abbrev pub diverged_kind : {X Y : Type 0} → Ops X → Ops Y → Option MemoryI
 diverged_kind d s =
     cond (loads d.load || loads s.load) (some NeedsInitializedMemory) (cond (beq d.keep s.keep) none (some ImplicitlyInitialized))
 
+-- The aspect that is not stored where the other is, by whether each is.
 abbrev pub aspect_by : Bool → Bool → ℕ
 aspect_by d s = cond (beq d s) 0 (cond d 2 1)
 

@@ -1,9 +1,11 @@
 -- What a check leaves in lent lists, by what refuses the pass.
 use Prim.Native.Nat.{◌≤◌}
 use native.Mathlib.Omega.{arith}
-use mathlib.Core.Path.{◌≡◌, refl, sym, ap, ◌∙◌}
+use Rattle.std.specs.Prelude as code
+use Rattle.std.specs.Prelude.{Some}
+use mathlib.Core.Path.{◌≡◌, refl, sym, ap, subst, ◌∙◌}
 use mathlib.Core.Bool.{true, false, cond}
-use mathlib.Core.List.{map}
+use mathlib.Core.List.{List, map}
 use lib.ListN.{length}
 use Rattle.definition.specs.Session.{Pass, Session}
 use Rattle.definition.specs.Verdict.{nowhere, is_accepted}
@@ -14,20 +16,18 @@ use Rattle.definition.specs.Pass as Def
 use Rattle.definition.specs.Pass.{attachment_reply, new_pass, room_verdict, acceptance, accepted_pass, refused_pass, check_pass}
 use Rattle.definition.specs.declared.Seen.{Seen}
 use Rattle.definition.specs.declared.Verdict.{Verdict}
-use Rattle.laws.specs.Plans.{together}
+use Rattle.laws.specs.Plans.{Plan, plan_of, together}
 use Rattle.noninterference.proofs.Accepted.{pass_separate}
 use Rattle.lists.specs.Lists.{count_in, surface_of, action_of_bytes}
 use Rattle.lists.specs.Lent.{ListBytes, lists_in, Leaves}
 use Rattle.lists.proofs.Lists.{list_length}
 use Rattle.memory_init.specs.declared.tally.Tally.{Tally}
-use Rattle.memory_init.specs.declared.Plans.{Plans}
-use Rattle.memory_init.specs.Plans.{plans_in}
-use Rattle.memory_init.specs.Tally.{DiscardsInRoom, TallyOf}
+use Rattle.memory_init.specs.Tally.{DiscardsInRoom, TallyOf, Tallied}
 use Rattle.recording.specs.Recording.{Recordable}
 use Rattle.attachments.specs.declared.DepthStencilPart.{DepthStencilPart}
 use Rattle.attachments.specs.declared.resolve.Attachments.{Attachments}
-use Rattle.attachments.specs.Attached.{PartOf}
-use Rattle.attachments.specs.Resolved.{listed, PlansOf}
+use Rattle.attachments.specs.Attached.{PartOf, is_depth_read_only, is_stencil_read_only, divergent_in}
+use Rattle.attachments.specs.Resolved.{listed}
 use Rattle.attachments.proofs.DepthStencil.{depth_first, stencil_first, divergent_first}
 use Rattle.definition.specs.Sizes.{max_clears, surface_bytes, action_bytes}
 use Rattle.render_pass.specs.declared.Reply.{Reply}
@@ -56,32 +56,39 @@ module _ (S : Session) (p : Pass) (b : ListBytes) (asked : Checkable S b) where
       refused r v (refused_by_start S p (lists_in b) (ap is_accepted (sym ev) ∙ h) ∙ ap (λ q. refused_pass q (lists_in b)) (sym ev)) h e
 
   -- What a pass that 5, 10 to 48 and 51 accept finds.
-  module _ (ok : is_accepted (check S p).verdict ≡ true) (d : DepthStencilPart) (x : Plans) (t : Tally) (v : Verdict) (resolved : PlansOf (attachments S p) x)
-      (counted : TallyOf (plans_in x) (lists_in b).discards t) (told : v ≡ room_by t (count_in b.actions)) where
+  module _ (ok : is_accepted (check S p).verdict ≡ true) (ps : List Plan) (found : code.Option Tally) (v : Verdict) (are : ps ≡ map plan_of (attachments S p))
+      (counted : Tallied ps (lists_in b).discards found) (told : v ≡ room_by found (count_in b.actions)) where
     verdict : v ≡ room_verdict (attachments S p) (new_pass (lists_in b))
-    verdict = told ∙ room_told (attachments S p) (plans_in x) t (new_pass (lists_in b)) resolved.plans (pass_separate S asked.views p ok) counted (count_in b.actions) actions_in_lem
+    verdict = told ∙ room_told (attachments S p) ps (new_pass (lists_in b)) are (pass_separate S asked.views p ok) found counted (count_in b.actions) actions_in_lem
 
     pub no_room : (r : Reply) → is_accepted v ≡ false → r ≡ replied (Def.refusal v) → Checked S p b r b
     no_room r h e = refused r v (refused_by_room S p (lists_in b) v ok verdict h) h e
 
-    module _ (h : is_accepted v ≡ true) where
-      pub recordable : Recordable x t b
+    module _ (t : Tally) (is : found ≡ Some t) (h : is_accepted v ≡ true) where
+      -- It is tallied.
+      tallied : TallyOf ps (lists_in b).discards t
+      tallied = subst (Tallied ps (lists_in b).discards) is counted
+
+      -- There is room for the actions.
+      room : is_accepted (room_by (Some t) (count_in b.actions)) ≡ true
+      room = ap (λ q. is_accepted (room_by q (count_in b.actions))) (sym is) ∙ ap is_accepted (sym told) ∙ h
+
+      pub recordable : Recordable ps t b
       recordable = record {
-        whole = resolved.whole;
-        tallied = counted;
+        tallied = tallied;
         long = asked.long;
         held = held;
-        layers = few_layered S p asked.textures asked.views ok (plans_in x) resolved.plans;
-        fits = together_fits (attachments S p) (plans_in x) t (lists_in b) resolved.plans (pass_separate S asked.views p ok) counted (count_in b.actions) actions_in_lem (ap is_accepted (sym told) ∙ h) asked.fits.discards;
+        layers = few_layered S p asked.textures asked.views ok ps are;
+        fits = together_fits (attachments S p) ps (lists_in b) are (pass_separate S asked.views p ok) t tallied (count_in b.actions) actions_in_lem room asked.fits.discards;
       }
 
       -- The clears are few, so that their number fits a u32.
       pub returned_few : t.returned ≤ max_clears
-      returned_few = few_returned (attachments S p) (plans_in x) t (lists_in b) resolved.plans (pass_separate S asked.views p ok) counted (count_in b.actions) actions_in_lem (ap is_accepted (sym told) ∙ h) asked.fits.discards
+      returned_few = few_returned (attachments S p) ps (lists_in b) are (pass_separate S asked.views p ok) t tallied (count_in b.actions) actions_in_lem room asked.fits.discards
 
       -- Accepted: what is recorded and replied is the definition's.
-      pub recorded : (r : Reply) (b' : ListBytes) (seen : Seen) (a : Attachments) → seen ≡ (check S p).seen → PartOf S d (depth_stencil_part S p)
-          → Leaves (together (plans_in x) (new_pass (lists_in b))) b b' → a ≡ listed (map (attachment_reply S) (attachments S p))
+      pub recorded : (r : Reply) (b' : ListBytes) (seen : Seen) (d : code.Option DepthStencilPart) (a : Attachments) → seen ≡ (check S p).seen → PartOf S d (depth_stencil_part S p)
+          → Leaves (together ps (new_pass (lists_in b))) b b' → a ≡ listed (map (attachment_reply S) (attachments S p))
           → r ≡ record {
             number = 0;
             place = nowhere;
@@ -89,19 +96,19 @@ module _ (S : Session) (p : Pass) (b : ListBytes) (asked : Checkable S b) where
             width = seen.width;
             height = seen.height;
             samples = seen.samples;
-            depth_read_only = cond d.is_depth_read_only 1 0;
-            stencil_read_only = cond d.is_stencil_read_only 1 0;
-            divergent = d.divergent;
+            depth_read_only = cond (is_depth_read_only d) 1 0;
+            stencil_read_only = cond (is_stencil_read_only d) 1 0;
+            divergent = divergent_in d;
             clears = t.returned;
             count = a.count;
             attachments = a.records;
           } → Checked S p b r b'
-      recorded r b' seen a es part left ea e =
+      recorded r b' seen d a es part left ea e =
           let apart = pass_separate S asked.views p ok in
           let xs = attachments S p in
           let o : check_pass S p (lists_in b) ≡ accepted_pass S (check S p).seen xs (lists_in b) = accepted_pass_lem S p (lists_in b) v ok verdict h in
-          let all : together (plans_in x) (new_pass (lists_in b)) ≡ attach_all xs (new_pass (lists_in b)) = left_together xs (plans_in x) t (lists_in b) resolved.plans apart counted in
-          let returned : t.returned ≡ length (attach_all xs (new_pass (lists_in b))).clears = counted.returned ∙ ap (λ (q : Lists). length q.clears) all in
+          let all : together ps (new_pass (lists_in b)) ≡ attach_all xs (new_pass (lists_in b)) = left_together xs ps (lists_in b) are apart in
+          let returned : t.returned ≡ length (attach_all xs (new_pass (lists_in b))).clears = tallied.returned ∙ ap (λ (q : Lists). length q.clears) all in
           let said : r ≡ replied (acceptance S (check S p).seen xs (attach_all xs (new_pass (lists_in b))).clears) = e ∙ λ i. record {
             number = 0;
             place = nowhere;

@@ -1,5 +1,7 @@
 -- The outcome of a check, by what refuses the pass: its row, operations and views, then the room of the lists, or nothing.
 use Prim.Native.Nat.{ℕ, ◌+◌, ◌≤◌}
+use Rattle.std.specs.Prelude as code
+use Rattle.std.specs.Prelude.{None, Some}
 use native.Mathlib.Omega.{arith}
 use mathlib.Core.Path.{◌≡◌, refl, sym, ap, subst, ◌∙◌}
 use mathlib.Core.Bool.{Bool, true, false, cond}
@@ -21,14 +23,16 @@ use Rattle.laws.specs.Separate.{Separate}
 use Rattle.laws.specs.Plans.{Plan, plan_of, leaving_all, staying_all, added_all, listed_all, steps_fit, together, Layered}
 use Rattle.laws.proofs.Readable.{few_layers}
 use Rattle.laws.proofs.Tests.{clash, cond_on, cond_off}
-use Rattle.laws.proofs.Verdicts.{then_left, then_right, then_stop, then_go, unless_on}
+use Rattle.laws.proofs.Verdicts.{then_stop, then_go, unless_on}
 use Rattle.laws.proofs.Plans.{attach_together, room_counted, staying_count, steps_end, returned_most}
 use Rattle.noninterference.proofs.Passes.{All}
 use Rattle.noninterference.proofs.Accepted.{Ranged, pass_ranged}
 use Rattle.session_validation.proofs.Valid.{valid_pass}
 use Rattle.lists.specs.Lent.{Fits}
+use Rattle.memory_init.specs.declared.Planned.{Planned}
 use Rattle.memory_init.specs.declared.tally.Tally.{Tally}
-use Rattle.memory_init.specs.Tally.{TallyOf}
+use Rattle.memory_init.specs.Plans.{plans_in}
+use Rattle.memory_init.specs.Tally.{TallyOf, Tallied}
 use Rattle.render_pass.specs.Outcome.{room_by}
 
 -- ── the attachments
@@ -47,6 +51,11 @@ pub all_attached : (S : Session) (p : Pass) (n : ℕ) → n ≡ p.colors → dep
 unfolding attachments
 all_attached S p n e = ap (λ (q : ℕ). depth_stencil_part S p ++ slot_parts S p q) e
 
+-- So the plans that are lent are those of the pass's attachments.
+pub lent_plans : (S : Session) (p : Pass) {n : ℕ} {all lent : List Planned} → n ≡ p.colors → lent ≡ all → plans_in all ≡ map plan_of (depth_stencil_part S p ++ slot_parts S p n)
+    → plans_in lent ≡ map plan_of (attachments S p)
+lent_plans S p {n = n} e same told = ap plans_in same ∙ told ∙ ap (map plan_of) (all_attached S p n e)
+
 -- Each attachment's range lies inside its texture, which has few layers.
 ranged_layers : (S : Session) → textures_valid S ≡ true → (xs : List Attached) → All (Ranged S) xs → Layered (map plan_of xs)
 ranged_layers S h [] a = tt
@@ -59,36 +68,43 @@ few_layered S p textures views h ps are = subst Layered (sym are) (ranged_layers
 
 -- ── 49 and 50
 
--- Plans that meet no surface twice, and what they find among the discards of l.
-module _ (xs : List Attached) (ps : List Plan) (t : Tally) (l : Lists) (are : ps ≡ map plan_of xs) (apart : Separate xs) (counted : TallyOf ps l.discards t) where
-  -- What is told by the tally is the definition's verdict.
-  pub room_told : (a : ℕ) → a ≡ length l.actions → room_by t a ≡ room_verdict xs l
-  unfolding room_by
-  room_told a e = (λ i. unless ((counted.fits ∙ ap (λ q. steps_fit q (length l.discards) l.discards) are) i) 49 nowhere
-      then unless (leb (e i + (counted.added ∙ ap (λ q. length (added_all q l.discards)) are) i) max_actions) 50 nowhere) ∙ sym (room_counted xs l apart)
+-- Plans that meet no surface twice, and the discards of l.
+module _ (xs : List Attached) (ps : List Plan) (l : Lists) (are : ps ≡ map plan_of xs) (apart : Separate xs) where
+  -- What is told by what they find is the definition's verdict.
+  pub room_told : (found : code.Option Tally) → Tallied ps l.discards found → (a : ℕ) → a ≡ length l.actions → room_by found a ≡ room_verdict xs l
+  unfolding unless
+  room_told None full a e =
+      sym (then_stop _ (unless (leb (length l.actions + length (added_all (map plan_of xs) l.discards)) max_actions) 50 nowhere) refl)
+      ∙ ap (λ q. unless q 49 nowhere then unless (leb (length l.actions + length (added_all (map plan_of xs) l.discards)) max_actions) 50 nowhere)
+      (sym full ∙ ap (λ q. steps_fit q (length l.discards) l.discards) are)
+      ∙ sym (room_counted xs l apart)
+  room_told (Some t) counted a e =
+      (λ i. unless (leb (e i + (counted.added ∙ ap (λ q. length (added_all q l.discards)) are) i) max_actions) 50 nowhere)
+      ∙ sym (then_go (unless true 49 nowhere) _ refl)
+      ∙ ap (λ q. unless q 49 nowhere then unless (leb (length l.actions + length (added_all (map plan_of xs) l.discards)) max_actions) 50 nowhere)
+      (sym counted.fits ∙ ap (λ q. steps_fit q (length l.discards) l.discards) are)
+      ∙ sym (room_counted xs l apart)
 
-  -- Where there is room, the lists fit that the plans leave.
-  module _ (a : ℕ) (e : a ≡ length l.actions) (accepted : is_accepted (room_by t a) ≡ true) (few : length l.discards ≤ max_discards) where
-    steps : steps_fit (map plan_of xs) (length l.discards) l.discards ≡ true
-    unfolding room_by
-    steps = sym (counted.fits ∙ ap (λ q. steps_fit q (length l.discards) l.discards) are) ∙ unless_on t.fits 49 nowhere refl (then_left _ _ accepted)
+  module _ (t : Tally) (counted : TallyOf ps l.discards t) where
+    -- Where there is room, the lists fit that the plans leave.
+    module _ (a : ℕ) (e : a ≡ length l.actions) (accepted : is_accepted (room_by (Some t) a) ≡ true) (few : length l.discards ≤ max_discards) where
+      pub few_actions : a + t.added ≤ max_actions
+      few_actions = leb-true (a + t.added) max_actions (unless_on (leb (a + t.added) max_actions) 50 nowhere refl accepted)
 
-    pub few_actions : a + t.added ≤ max_actions
-    unfolding room_by
-    few_actions = leb-true (a + t.added) max_actions (unless_on (leb (a + t.added) max_actions) 50 nowhere refl (then_right _ _ accepted))
+      pub few_discards : length (staying_all ps l.discards ++ listed_all ps) ≤ max_discards
+      few_discards =
+          subst (λ q. length (staying_all q l.discards ++ listed_all q) ≤ max_discards) (sym are)
+          (steps_end xs l.discards apart (sym (ap (λ q. steps_fit q (length l.discards) l.discards) are) ∙ counted.fits) few)
 
-    pub few_discards : length (staying_all ps l.discards ++ listed_all ps) ≤ max_discards
-    few_discards = subst (λ q. length (staying_all q l.discards ++ listed_all q) ≤ max_discards) (sym are) (steps_end xs l.discards apart steps few)
+      pub few_returned : t.returned ≤ max_clears
+      few_returned = omega (arith, counted.returned, returned_most ps l.discards, ap (λ q. length (leaving_all q l.discards)) are, staying_count xs l.discards apart)
 
-    pub few_returned : t.returned ≤ max_clears
-    few_returned = omega (arith, counted.returned, returned_most ps l.discards, ap (λ q. length (leaving_all q l.discards)) are, staying_count xs l.discards apart)
-
-    pub together_fits : Fits (together ps (new_pass l))
-    together_fits = record {
-      discards = few_discards;
-      actions = omega (arith, few_actions, counted.added, length-append l.actions (added_all ps l.discards));
-      clears = omega (arith, few_returned, counted.returned);
-    }
+      pub together_fits : Fits (together ps (new_pass l))
+      together_fits = record {
+        discards = few_discards;
+        actions = omega (arith, few_actions, counted.added, length-append l.actions (added_all ps l.discards));
+        clears = omega (arith, few_returned, counted.returned);
+      }
 
   -- What they leave is what the attachments leave.
   pub left_together : together ps (new_pass l) ≡ attach_all xs (new_pass l)

@@ -3,7 +3,9 @@ use Prim.Native.Nat.{ℕ, ◌+◌, ◌≤◌}
 use native.Mathlib.Omega.{arith}
 use mathlib.Core.Path.{◌≡◌, sym, ap, subst, ◌∙◌}
 use mathlib.Core.Bool.{true, false}
-use mathlib.Core.List.{List, [], ◌++◌}
+use Rattle.std.specs.Prelude as code
+use Rattle.std.specs.Prelude.{Some}
+use mathlib.Core.List.{List, [], ◌++◌, map}
 use lib.ListN.{length, replicate, length-append}
 use lib.ListN.{length-replicate}
 use Rattle.definition.specs.Sizes.{max_discards, surface_bytes}
@@ -18,16 +20,13 @@ use Rattle.definition.specs.declared.Seen.{Seen}
 use Rattle.definition.specs.declared.Action.{Action}
 use Rattle.definition.specs.declared.Verdict.{Verdict}
 use Rattle.definition.specs.declared.MemoryInitKind.TheVariants.{ImplicitlyInitialized}
-use Rattle.laws.specs.Plans.{staying_all, added_all, listed_all, together}
+use Rattle.laws.specs.Plans.{Plan, plan_of, staying_all, added_all, listed_all, together}
 use Rattle.noninterference.proofs.Accepted.{pass_separate}
 use Rattle.lists.specs.Lists.{surface_of, surfaces_in, SurfacesBecome}
 use Rattle.lists.proofs.Lists.{list_length, becomes_count}
 use Rattle.memory_init.specs.declared.tally.Tally.{Tally}
-use Rattle.memory_init.specs.Plans.{plans_in}
-use Rattle.memory_init.specs.Tally.{TallyOf}
+use Rattle.memory_init.specs.Tally.{TallyOf, Tallied}
 use Rattle.discard_list.specs.Discards.{LentDiscards}
-use Rattle.memory_init.specs.declared.Plans.{Plans}
-use Rattle.attachments.specs.Resolved.{PlansOf}
 use Rattle.render_pass.specs.declared.summary.PassSummary.{PassSummary}
 use Rattle.render_pass.specs.Outcome.{room_by}
 use Rattle.render_pass.specs.Summary.{refused_summary, summary, StandFor, Summarizable, Summarized}
@@ -57,42 +56,49 @@ module _ (S : Session) (p : Pass) (d : List ℕ) (a : ℕ) (asked : Summarizable
   stopped r v ev h e = refused r v (λ l for. refused_by_start S p l (ap is_accepted (sym ev) ∙ h) ∙ ap (λ q. refused_pass q l) (sym ev)) e
 
   -- What a pass that 5, 10 to 48 and 51 accept finds.
-  module _ (ok : is_accepted (check S p).verdict ≡ true) (x : Plans) (t : Tally) (v : Verdict) (resolved : PlansOf (attachments S p) x) (counted : TallyOf (plans_in x) (surfaces_in d) t)
-      (told : v ≡ room_by t a) where
+  module _ (ok : is_accepted (check S p).verdict ≡ true) (ps : List Plan) (found : code.Option Tally) (v : Verdict) (are : ps ≡ map plan_of (attachments S p)) (counted : Tallied ps (surfaces_in d) found)
+      (told : v ≡ room_by found a) where
     verdict : (l : Lists) → StandFor d a l → v ≡ room_verdict (attachments S p) (new_pass l)
     verdict l for =
-        told ∙ room_told (attachments S p) (plans_in x) t (new_pass l) resolved.plans (pass_separate S asked.views p ok)
-        (subst (λ q. TallyOf (plans_in x) q t) for.discards counted) a for.actions
+        told ∙ room_told (attachments S p) ps (new_pass l) are (pass_separate S asked.views p ok) found
+        (subst (λ q. Tallied ps q found) for.discards counted) a for.actions
 
     pub no_room : (r : PassSummary) → is_accepted v ≡ false → r ≡ refused_summary v a → Summarized S p d a r d
     no_room r h e = refused r v (λ l for. refused_by_room S p l v ok (verdict l for) h) e
 
-    module _ (h : is_accepted v ≡ true) where
+    module _ (t : Tally) (is : found ≡ Some t) (h : is_accepted v ≡ true) where
       few_held : length (surfaces_in d) ≤ max_discards
       few_held = omega (arith, asked.held.count, list_length surface_bytes surface_of d)
 
-      discards_after : length (staying_all (plans_in x) (surfaces_in d) ++ listed_all (plans_in x)) ≤ max_discards
-      discards_after = few_discards (attachments S p) (plans_in x) t (stood d a) resolved.plans (pass_separate S asked.views p ok) counted a (stood_for d a) (ap is_accepted (sym told) ∙ h) few_held
+      -- It is tallied.
+      tallied : TallyOf ps (surfaces_in d) t
+      tallied = subst (Tallied ps (surfaces_in d)) is counted
 
-      pub lendable : LentDiscards (plans_in x) t.leaving d
+      -- There is room for the actions.
+      room : is_accepted (room_by (Some t) a) ≡ true
+      room = ap (λ q. is_accepted (room_by q a)) (sym is) ∙ ap is_accepted (sym told) ∙ h
+
+      discards_after : length (staying_all ps (surfaces_in d) ++ listed_all ps) ≤ max_discards
+      discards_after = few_discards (attachments S p) ps (stood d a) are (pass_separate S asked.views p ok) t tallied a (stood_for d a) room few_held
+
+      pub lendable : LentDiscards ps t.leaving d
       lendable = record {
         held = asked.held;
-        counted = counted.leaving;
-        layers = few_layered S p asked.textures asked.views ok (plans_in x) resolved.plans;
+        counted = tallied.leaving;
+        layers = few_layered S p asked.textures asked.views ok ps are;
         room = record { bytes = omega (arith, discards_after, asked.held.long); small = omega (arith, discards_after) };
       }
 
       -- Accepted.
       pub recorded : (r : PassSummary) (d' : List ℕ) (seen : Seen) → seen ≡ (check S p).seen → length d' ≡ length d
-          → SurfacesBecome (staying_all (plans_in x) (surfaces_in d) ++ listed_all (plans_in x)) d d'
+          → SurfacesBecome (staying_all ps (surfaces_in d) ++ listed_all ps) d d'
           → r ≡ record { verdict = accepted; width = seen.width; height = seen.height; samples = seen.samples; clears = t.returned; actions = a + t.added } → Summarized S p d a r d'
       recorded r d' seen es long left e =
           let xs = attachments S p in
-          let ps = plans_in x in
           let apart = pass_separate S asked.views p ok in
           let o : (l : Lists) → StandFor d a l → check_pass S p l ≡ accepted_pass S (check S p).seen xs l = λ l for. accepted_pass_lem S p l v ok (verdict l for) h in
-          let of : (l : Lists) → StandFor d a l → TallyOf ps l.discards t = λ l for. subst (λ q. TallyOf ps q t) for.discards counted in
-          let all : (l : Lists) → StandFor d a l → together ps (new_pass l) ≡ attach_all xs (new_pass l) = λ l for. left_together xs ps t l resolved.plans apart (of l for) in
+          let of : (l : Lists) → StandFor d a l → TallyOf ps l.discards t = λ l for. subst (λ q. TallyOf ps q t) for.discards tallied in
+          let all : (l : Lists) → StandFor d a l → together ps (new_pass l) ≡ attach_all xs (new_pass l) = λ l for. left_together xs ps l are apart in
           let added : (l : Lists) → StandFor d a l → a + t.added ≡ length (attach_all xs (new_pass l)).actions =
           λ l for. omega (arith, for.actions, (of l for).added, length-append l.actions (added_all ps l.discards), ap (λ (q : Lists). length q.actions) (all l for)) in
           record {
@@ -109,6 +115,6 @@ module _ (S : Session) (p : Pass) (d : List ℕ) (a : ℕ) (asked : Summarizable
               actions = ap (λ q. q.actions) e ∙ added l for ∙ sym (ap (λ q. length q.lists.actions) (o l for));
             };
             held = record { long = omega (arith, asked.held.long, long); count = omega (arith, becomes_count left, discards_after) };
-            few_actions = omega (arith, ap (λ q. q.actions) e, few_actions xs ps t (stood d a) resolved.plans apart counted a (stood_for d a) (ap is_accepted (sym told) ∙ h) few_held);
-            few_clears = omega (arith, ap (λ q. q.clears) e, few_returned xs ps t (stood d a) resolved.plans apart counted a (stood_for d a) (ap is_accepted (sym told) ∙ h) few_held);
+            few_actions = omega (arith, ap (λ q. q.actions) e, few_actions xs ps (stood d a) are apart t tallied a (stood_for d a) room few_held);
+            few_clears = omega (arith, ap (λ q. q.clears) e, few_returned xs ps (stood d a) are apart t tallied a (stood_for d a) room few_held);
           }

@@ -5,7 +5,7 @@
 
 pub mod summary;
 
-ghost use Rattle.std.specs.Prelude.{◌≡◌, true, cond, ◌+◌, ◌*◌, ◌≤◌};
+ghost use Rattle.std.specs.Prelude.{◌≡◌, true, cond, ◌+◌, ◌*◌, ◌≤◌, IfSome};
 ghost use Rattle.definition.specs.Sizes.{max_slots, max_discards, max_actions, max_attachments};
 ghost use Rattle.definition.specs.Session.{session};
 ghost use Rattle.definition.specs.Check.{check, view_steps};
@@ -13,14 +13,15 @@ ghost use Rattle.definition.specs.Verdict.{is_accepted};
 ghost use Rattle.definition.specs.Pass as Pass;
 ghost use Rattle.session.specs.Rows.{pass_in, session_in};
 ghost use Rattle.lists.specs.Lent.{bytes};
-ghost use Rattle.render_pass.specs.Outcome.{replied, room_by, Checkable, Checked};
+ghost use Rattle.attachments.specs.Attached.{is_depth_read_only, is_stencil_read_only, divergent_in};
+ghost use Rattle.render_pass.specs.Outcome.{replied, RoomOf, Checkable, Checked};
 
 use attachment_checks::{bytes_fit, depth_stencil_step, slot_steps};
 use attachments::resolve::{plans_of, replies_of};
-use attachments::{depth_stencil_part, empty_reply};
+use attachments::{DepthStencilPart, depth_stencil_part, empty_reply};
 use definition::refusals::Refusal;
 use definition::sizes::{MAX_ACTIONS, MAX_ATTACHMENTS};
-use definition::verdicts::{NOWHERE, is_accepted, refused_at, then, unless};
+use definition::verdicts::{NOWHERE, is_accepted, refused_at, then};
 use definition::{Attachment, Progress, Seen, Verdict};
 use descriptor::fill_arc_desc;
 use lists::count;
@@ -58,11 +59,13 @@ fn view_steps(pass: &PassRow) -> Progress
     let n = pass.colors();
     let fit = bytes_fit(pass, n);
     let walked = slot_steps(pass, fit, depth_stencil_step(pass), n);
-    let judged = walked.verdict;
     let seen = walked.seen;
     Progress {
-        verdict: then(judged, mask_verdict(pass.session, pass.mask(), seen.layers)),
-        seen: seen,
+        verdict: then(
+            walked.verdict,
+            mask_verdict(pass.session, pass.mask(), seen.layers),
+        ),
+        seen,
     }
 }
 
@@ -87,14 +90,18 @@ fn start(pass: &PassRow) -> Progress
 }
 
 // 49 if a step has no room for its discards, then 50 if the end has none for all actions, of which there are so many.
-fn room_verdict(t: Tally, actions: usize) -> Verdict
-    requires { (actions ≤ max_actions) × (t.added ≤ max_attachments * (max_discards + 1)) }
-    ensures { result ≡ room_by t actions }
+#[tactic(auto, unfolding(definition::specs::Verdict::unless))]
+fn room_verdict(found: Option<Tally>, actions: usize) -> Result<Tally, Refusal>
+    requires few_actions { actions ≤ max_actions }
+    requires few_added { IfSome found (λ t. t.added ≤ max_attachments * (max_discards + 1)) }
+    ensures { RoomOf found actions result }
 {
-    then(
-        unless(t.fits, Refusal::TooManyDiscards, NOWHERE),
-        unless(actions + t.added <= MAX_ACTIONS, Refusal::TooManyActions, NOWHERE),
-    )
+    let t = found.ok_or(Refusal::TooManyDiscards)?;
+    if actions + t.added <= MAX_ACTIONS {
+        Ok(t)
+    } else {
+        Err(Refusal::TooManyActions)
+    }
 }
 
 // 1 for true.
@@ -102,6 +109,39 @@ fn flag(b: bool) -> u32
     ensures { result ≡ cond b 1 0 }
 {
     if b { 1 } else { 0 }
+}
+
+// Whether the pass only reads the depth of its depth-stencil attachment, if it has one.
+fn is_depth_read_only(d: &Option<DepthStencilPart>) -> bool
+    ensures { result ≡ is_depth_read_only d.now }
+{
+    match d {
+        Some(d) => d.is_depth_read_only,
+        None => false,
+    }
+}
+
+// Whether it only reads the stencil.
+fn is_stencil_read_only(d: &Option<DepthStencilPart>) -> bool
+    ensures { result ≡ is_stencil_read_only d.now }
+{
+    match d {
+        Some(d) => d.is_stencil_read_only,
+        None => false,
+    }
+}
+
+// The number of the aspect that diverges, or 0.
+fn divergent(d: &Option<DepthStencilPart>) -> u32
+    ensures { result ≡ divergent_in d.now }
+{
+    let Some(d) = d else {
+        return 0;
+    };
+    match d.divergent {
+        Some(aspect) => aspect as u32,
+        None => 0,
+    }
 }
 
 // A refused pass replies with no attachments or clears.
@@ -132,7 +172,7 @@ fn finish(
     actions: &mut [u8],
     clears: &mut [u8],
 ) -> Reply
-    requires fact { let p = check (session_in pass.now) (pass_in pass.now) in
+    requires judged { let p = check (session_in pass.now) (pass_in pass.now) in
         (is_accepted p.verdict ≡ true) × (seen ≡ p.seen) }
     requires checkable { Checkable (session_in pass.now) (bytes discards.old actions.old clears.old) }
     ensures { Checked (session_in pass.now) (pass_in pass.now)
@@ -142,14 +182,15 @@ fn finish(
 {
     let d = depth_stencil_part(pass);
     let n = pass.colors();
-    let plans = plans_of(pass, d, n);
-    let t = tally_pass(discards, plans);
-    let room = room_verdict(t, count(actions));
-    if !is_accepted(room) {
-        return refusal(room);
-    }
+    let resolved = plans_of(pass, &d, n);
+    let plans = resolved.as_slice();
+    let found = tally_pass(discards, plans);
+    let t = match room_verdict(found, count(actions)) {
+        Ok(t) => t,
+        Err(why) => return refusal(refused_at(why, NOWHERE)),
+    };
     record_pass(discards, actions, clears, plans, t);
-    let replies = replies_of(pass, d, n);
+    let replies = replies_of(pass, &d, n);
     let records = replies.records;
     Reply {
         number: 0,
@@ -158,9 +199,9 @@ fn finish(
         width: seen.width,
         height: seen.height,
         samples: seen.samples,
-        depth_read_only: flag(d.is_depth_read_only),
-        stencil_read_only: flag(d.is_stencil_read_only),
-        divergent: d.divergent,
+        depth_read_only: flag(is_depth_read_only(&d)),
+        stencil_read_only: flag(is_stencil_read_only(&d)),
+        divergent: divergent(&d),
         clears: t.returned as u32,
         count: replies.count,
         attachments: records,

@@ -10,7 +10,7 @@ ghost use Rattle.render_pass.specs.Summary.{Summarizable, Summarized, refused_su
 use crate::{room_verdict, start};
 use attachments::depth_stencil_part;
 use attachments::resolve::plans_of;
-use definition::verdicts::{accepted, is_accepted};
+use definition::verdicts::{NOWHERE, accepted, is_accepted, refused_at};
 use definition::{Seen, Verdict};
 use discard_list::record_discards;
 use memory_init::tally::tally_pass;
@@ -42,24 +42,20 @@ fn refused_summary(v: Verdict, actions: usize) -> PassSummary
 }
 
 // A pass that 5, 10 to 48 and 51 accept: 49 and 50, then the discards that it leaves.
-fn finish_summary(
-    pass: &PassRow,
-    seen: Seen,
-    discards: &mut [u8],
-    actions: usize,
-) -> PassSummary
-    requires fact { let p = check (session_in pass.now) (pass_in pass.now) in
+fn finish_summary(pass: &PassRow, seen: Seen, discards: &mut [u8], actions: usize) -> PassSummary
+    requires judged { let p = check (session_in pass.now) (pass_in pass.now) in
         (is_accepted p.verdict ≡ true) × (seen ≡ p.seen) }
     requires summarizable { Summarizable (session_in pass.now) discards.old actions }
     ensures { Summarized (session_in pass.now) (pass_in pass.now) discards.old actions result discards.new }
 {
     let d = depth_stencil_part(pass);
-    let plans = plans_of(pass, d, pass.colors());
-    let t = tally_pass(discards, plans);
-    let room = room_verdict(t, actions);
-    if !is_accepted(room) {
-        return refused_summary(room, actions);
-    }
+    let resolved = plans_of(pass, &d, pass.colors());
+    let plans = resolved.as_slice();
+    let found = tally_pass(discards, plans);
+    let t = match room_verdict(found, actions) {
+        Ok(t) => t,
+        Err(why) => return refused_summary(refused_at(why, NOWHERE), actions),
+    };
     record_discards(discards, plans, t.leaving);
     PassSummary {
         verdict: accepted(),

@@ -1,66 +1,72 @@
 -- By what refuses the pass: the room of the lists, or nothing.
-use mathlib.Core.Path.{sym, ap, subst, ◌∙◌}
+use mathlib.Core.Path.{◌≡◌, ap, ◌∙◌}
 use mathlib.Core.List.{map}
 use native.Mathlib.Omega.{arith}
-use Rattle.definition.specs.Session.{session}
+use Rattle.definition.specs.Verdict.{is_accepted}
+use Rattle.definition.specs.Attachments.{attachments}
 use Rattle.definition.specs.Pass.{attachment_reply}
+use Rattle.laws.specs.Plans.{plan_of}
 use Rattle.session.specs.Rows.{pass_in, session_in}
-use Rattle.lists.specs.Lent.{bytes}
-use Rattle.attachments.specs.Resolved.{listed, PlansOf}
-use Rattle.render_pass.proofs.Outcome.{few_colors, all_attached}
+use Rattle.lists.specs.Lists.{count_in}
+use Rattle.lists.specs.Lent.{ListBytes, bytes}
+use Rattle.memory_init.specs.Plans.{plans_in}
+use Rattle.attachments.specs.Resolved.{listed}
+use Rattle.render_pass.specs.Outcome.{room_by}
+use Rattle.render_pass.proofs.Outcome.{few_colors, all_attached, lent_plans}
 use Rattle.render_pass.proofs.Checked.{held, actions_in_lem, no_room, recordable, returned_few, recorded}
 use Rattle.render_pass.proofs.finish.Goals as goal
+use Rattle.render_pass.proofs.finish.Goals.{After-room_verdict}
 
-pub plans_of-plans-requires : goal.plans_of-plans-requires
-plans_of-plans-requires c = record { part_of = c.depth_stencil_part-d.ensures; n_le_max_slots = omega (arith, c.colors-n.ensures, few_colors _ _ c.requires.fact.0) }
+-- The lists as they are lent.
+abbrev lent : After-room_verdict → ListBytes
+lent c = bytes c.args.discards.now c.args.actions.now c.args.clears.now
 
-pub tally_pass-t-requires : goal.tally_pass-t-requires
-tally_pass-t-requires c =
+-- The plans that are tallied are those of the pass's attachments.
+planned : (c : After-room_verdict) → plans_in c.as_slice-plans.result.now ≡ map plan_of (attachments (session_in c.args.pass.now) (pass_in c.args.pass.now))
+planned c = lent_plans _ _ c.colors-n.ensures c.as_slice-plans.ensures.all c.plans_of-resolved.ensures
+
+-- The room is told by the actions that are lent.
+told : (c : After-room_verdict) → room_by c.tally_pass-found.result c.count.result ≡ room_by c.tally_pass-found.result (count_in c.args.actions.now)
+told c = ap (room_by c.tally_pass-found.result) c.count.ensures
+
+pub plans_of-resolved-requires-clause-few_slots : goal.plans_of-resolved-requires-clause-few_slots
+plans_of-resolved-requires-clause-few_slots c = omega (arith, c.colors-n.ensures, few_colors _ _ c.requires.judged.0)
+
+pub tally_pass-found-requires-clause-discards_in_room : goal.tally_pass-found-requires-clause-discards_in_room
+tally_pass-found-requires-clause-discards_in_room c =
     let a = c.args in
-    (held _ (pass_in a.pass.now) (bytes a.discards.now a.actions.now a.clears.now) c.requires.checkable, c.plans_of-plans.ensures.whole)
+    held _ (pass_in a.pass.now) (bytes a.discards.now a.actions.now a.clears.now) c.requires.checkable
 
-pub room_verdict-room-requires : goal.room_verdict-room-requires
-room_verdict-room-requires c =
+pub room_verdict-requires-clause-few_actions : goal.room_verdict-requires-clause-few_actions
+room_verdict-requires-clause-few_actions c =
     let a = c.args in
-    let lent = bytes a.discards.now a.actions.now a.clears.now in
-    (omega (arith, c.requires.checkable.fits.actions, c.count.ensures, actions_in_lem _ (pass_in a.pass.now) lent c.requires.checkable), c.tally_pass-t.ensures.most_added)
+    omega (arith, c.requires.checkable.fits.actions, c.count.ensures, actions_in_lem _ (pass_in a.pass.now) (bytes a.discards.now a.actions.now a.clears.now) c.requires.checkable)
 
-pub returns-then-not-is_accepted : goal.returns-then-not-is_accepted
-returns-then-not-is_accepted c =
-    let a = c.args in
-    let lent = bytes a.discards.now a.actions.now a.clears.now in
-    let planned = subst (λ xs. PlansOf xs c.plans_of-plans.result) (all_attached _ _ _ c.colors-n.ensures) c.plans_of-plans.ensures in
-    let told = simp c.count.ensures at c.room_verdict-room.ensures in
-    no_room _ _ lent c.requires.checkable c.requires.fact.0 c.depth_stencil_part-d.result _ _ _ planned c.tally_pass-t.ensures told _
-    (sym c.is_accepted.ensures ∙ c.if-not-is_accepted.true) c.refusal.ensures
+pub returns-in-Err : goal.returns-in-Err
+returns-in-Err c =
+    let at = (goal.at.returns-in-Err c).After-room_verdict in
+    let refused = c.refused_at.ensures ∙ c.in-Err.ensures.0 in
+    no_room _ _ (lent at) c.requires.checkable c.requires.judged.0 _ _ _ (planned at) c.tally_pass-found.ensures (refused ∙ told at) _ (ap is_accepted refused ∙ c.in-Err.ensures.1) c.refusal.ensures
 
 pub record_pass-requires : goal.record_pass-requires
 record_pass-requires c =
-    let a = c.args in
-    let lent = bytes a.discards.now a.actions.now a.clears.now in
-    let planned = subst (λ xs. PlansOf xs c.plans_of-plans.result) (all_attached _ _ _ c.colors-n.ensures) c.plans_of-plans.ensures in
-    let told = simp c.count.ensures at c.room_verdict-room.ensures in
-    recordable _ _ lent c.requires.checkable c.requires.fact.0 c.depth_stencil_part-d.result _ _ _ planned c.tally_pass-t.ensures told (sym c.is_accepted.ensures ∙ c.if-not-is_accepted.false)
+    let at = (goal.at.record_pass-requires c).After-room_verdict in
+    recordable _ _ (lent at) c.requires.checkable c.requires.judged.0 _ _ _ (planned at) c.tally_pass-found.ensures (told at) _ c.in-Ok.ensures.0 c.in-Ok.ensures.1
 
-pub replies_of-replies-requires : goal.replies_of-replies-requires
-replies_of-replies-requires c = record { part_of = c.depth_stencil_part-d.ensures; n_le_max_slots = omega (arith, c.colors-n.ensures, few_colors _ _ c.requires.fact.0) }
+pub replies_of-replies-requires-clause-few_slots : goal.replies_of-replies-requires-clause-few_slots
+replies_of-replies-requires-clause-few_slots c = omega (arith, c.colors-n.ensures, few_colors _ _ c.requires.judged.0)
 
 -- The clears are few, so that their number fits a u32.
 pub overflow_cast-result : goal.overflow_cast-result
 overflow_cast-result c =
-    let a = c.args in
-    let lent = bytes a.discards.now a.actions.now a.clears.now in
-    let planned = subst (λ xs. PlansOf xs c.plans_of-plans.result) (all_attached _ _ _ c.colors-n.ensures) c.plans_of-plans.ensures in
-    let told = simp c.count.ensures at c.room_verdict-room.ensures in
-    omega (arith, returned_few _ _ lent c.requires.checkable c.requires.fact.0 c.depth_stencil_part-d.result _ _ _ planned c.tally_pass-t.ensures told (sym c.is_accepted.ensures ∙ c.if-not-is_accepted.false))
+    let at = (goal.at.overflow_cast-result c).After-room_verdict in
+    omega (arith, returned_few _ _ (lent at) c.requires.checkable c.requires.judged.0 _ _ _ (planned at) c.tally_pass-found.ensures (told at) _ c.in-Ok.ensures.0 c.in-Ok.ensures.1)
 
 pub returns : goal.returns
 returns c =
-    let a = c.args in
-    let lent = bytes a.discards.now a.actions.now a.clears.now in
-    let planned = subst (λ xs. PlansOf xs c.plans_of-plans.result) (all_attached _ _ _ c.colors-n.ensures) c.plans_of-plans.ensures in
-    let told = simp c.count.ensures at c.room_verdict-room.ensures in
-    let S = session_in a.pass.now in
+    let at = (goal.at.returns c).After-room_verdict in
+    let S = session_in c.args.pass.now in
     let replied = c.replies_of-replies.ensures ∙ ap (λ xs. listed (map (attachment_reply S) xs)) (all_attached S _ _ c.colors-n.ensures) in
-    recorded _ _ lent c.requires.checkable c.requires.fact.0 _ _ _ _ planned c.tally_pass-t.ensures told (sym c.is_accepted.ensures ∙ c.if-not-is_accepted.false)
-    _ _ _ _ c.requires.fact.1 c.depth_stencil_part-d.ensures c.record_pass.ensures replied (simp (c.flag-2.ensures, c.flag.ensures))
+    recorded _ _ (lent at) c.requires.checkable c.requires.judged.0 _ _ _ (planned at) c.tally_pass-found.ensures (told at) _ c.in-Ok.ensures.0 c.in-Ok.ensures.1
+    _ _ _ _ _ c.requires.judged.1 c.depth_stencil_part-d.ensures c.record_pass.ensures replied
+    (simp (c.flag-2.ensures, c.flag.ensures, c.is_depth_read_only.ensures, c.is_stencil_read_only.ensures, c.divergent.ensures))
