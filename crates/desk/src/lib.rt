@@ -16,7 +16,7 @@ ghost use Rattle.desk.specs.Promise.{PassPromise, SubmitPromise};
 ghost use Rattle.desk.specs.Whole.{WholePromise};
 ghost use Rattle.desk.specs.Index.{status_index};
 
-use buffer_validation::{is_short, lent_valid, surface_valid};
+use buffer_validation::{LentBuffers, surface_valid};
 use definition::Surface;
 use definition::refusals::{INVALID_LENT, INVALID_PASS};
 use definition::sizes::ROWS_BYTES;
@@ -83,7 +83,13 @@ fn submit_lent(
         result
         (buffers discards.new actions.new clears.now status.new) }
 {
-    if !lent_valid(session, discards, actions, clears, status) {
+    let lent = LentBuffers {
+        discards,
+        actions,
+        clears,
+        status,
+    };
+    if !lent.is_valid(session) {
         return INVALID_LENT;
     }
     submit(session, discards, actions, status);
@@ -106,7 +112,13 @@ pub fn deskcheck_submit(
         result
         (buffers discards.new actions.new clears.now status.new) }
 {
-    if is_short(discards, actions, clears, status) {
+    let lent = LentBuffers {
+        discards,
+        actions,
+        clears,
+        status,
+    };
+    if lent.is_short() {
         return INVALID_LENT;
     }
     let number = session_refusal(session);
@@ -138,7 +150,13 @@ fn pass_lent(
         result
         (buffers discards.new actions.new clears.new status.now) }
 {
-    if !lent_valid(session, discards, actions, clears, status) {
+    let lent = LentBuffers {
+        discards,
+        actions,
+        clears,
+        status,
+    };
+    if !lent.is_valid(session) {
         return refused(INVALID_LENT);
     }
     if i >= pass_count(session) {
@@ -162,7 +180,13 @@ pub fn deskcheck_pass(
         result
         (buffers discards.new actions.new clears.new status.now) }
 {
-    if is_short(discards, actions, clears, status) {
+    let lent = LentBuffers {
+        discards,
+        actions,
+        clears,
+        status,
+    };
+    if lent.is_short() {
         return refused(INVALID_LENT);
     }
     let number = session_refusal(session);

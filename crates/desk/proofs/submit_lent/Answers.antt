@@ -7,11 +7,11 @@ use Rattle.buffer_validation.proofs.Lent.{long_of}
 use Rattle.desk.proofs.Sent.{sent_not_lent, sent_submits, sent_all}
 use Rattle.desk.proofs.submit_lent.Goals as goal
 
-pub returns-then-not-lent_valid : goal.returns-then-not-lent_valid
-returns-then-not-lent_valid c = sent_not_lent _ _ _ c.requires (sym c.lent_valid.ensures ∙ c.if-not-lent_valid.true) refl
+pub returns-then-not-is_valid : goal.returns-then-not-is_valid
+returns-then-not-is_valid c = sent_not_lent _ _ _ c.requires (sym c.is_valid.ensures ∙ c.if-not-is_valid.true) refl
 
 pub submit-requires : goal.submit-requires
-submit-requires c = sent_submits _ _ _ _ _ c.requires (sym c.lent_valid.ensures ∙ c.if-not-lent_valid.false)
+submit-requires c = sent_submits _ _ _ _ _ c.requires (sym c.is_valid.ensures ∙ c.if-not-is_valid.false)
 
 pub set_count-requires : goal.set_count-requires
 set_count-requires c =
@@ -27,5 +27,5 @@ set_count-requires-2 c =
 
 pub returns : goal.returns
 returns c =
-    sent_all _ _ _ _ _ c.requires (sym c.lent_valid.ensures ∙ c.if-not-lent_valid.false) _ _ _ c.set_count.ensures c.set_count-2.ensures c.submit.ensures
+    sent_all _ _ _ _ _ c.requires (sym c.is_valid.ensures ∙ c.if-not-is_valid.false) _ _ _ c.set_count.ensures c.set_count-2.ensures c.submit.ensures
     (search rules) (search rules) (search rules)
