@@ -36,12 +36,13 @@ unfolding put_number
 put_nowhere k s at n h = simp (lt-leb (at + k) (length s) h)
 
 -- Four stores in a row are those of the number's bytes.
-pub four_stores : (s : List ℕ) (at n : ℕ) → set (set (set (set s at (n % 256)) (at + 1) (n / 256 % 256)) (at + 2) (n / 65536 % 256)) (at + 3) (n / 16777216 % 256) ≡ sets s at (to_le_bytes w32 n)
-four_stores s at n =
+pub four_stores : (bs s : List ℕ) (at n : ℕ) → bs ≡ to_le_bytes w32 n
+    → set (set (set (set s at (get_or bs 0 0)) (at + 1) (get_or bs 1 0)) (at + 2) (get_or bs 2 0)) (at + 3) (get_or bs 3 0) ≡ sets s at (to_le_bytes w32 n)
+four_stores bs s at n e =
     let e₁ : at + 1 ≡ suc at = omega arith in
     let e₂ : at + 2 ≡ suc (suc at) = omega arith in
     let e₃ : at + 3 ≡ suc (suc (suc at)) = omega arith in
-    λ q. set (set (set (set s at (n % 256)) (e₁ q) (n / 256 % 256)) (e₂ q) (n / 65536 % 256)) (e₃ q) (n / 16777216 % 256)
+    λ q. set (set (set (set s at (get_or (e q) 0 0)) (e₁ q) (get_or (e q) 1 0)) (e₂ q) (get_or (e q) 2 0)) (e₃ q) (get_or (e q) 3 0)
 
 -- The four bytes of a u32, stored one after the other, write it.
 pub put_four : (s : List ℕ) (at n : ℕ) → at + 4 ≤ length s → sets s at (to_le_bytes w32 n) ≡ put_number 4 s at n
