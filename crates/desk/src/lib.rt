@@ -17,7 +17,7 @@ ghost use Rattle.desk.specs.Promise.{PassPromise, SubmitPromise};
 ghost use Rattle.desk.specs.Whole.{WholePromise};
 ghost use Rattle.desk.specs.Index.{index_in, status_index};
 
-use buffer_validation::{is_short, lent_valid, surface_valid};
+use buffer_validation::{LentBuffers, surface_valid};
 use definition::Surface;
 use definition::refusals::Refusal;
 use definition::sizes::ROWS_BYTES;
@@ -85,21 +85,16 @@ pub fn deskcheck_surface_index(
 }
 
 // Whether a call can be judged: the buffers are long enough, the session is readable, and what is lent is valid.
-fn opened(
-    session: &[u8],
-    discards: &[u8],
-    actions: &[u8],
-    clears: &[u8],
-    status: &[u8],
-) -> Result<(), Refusal>
-    ensures { let b = buffers discards.now actions.now clears.now status.now in
+fn opened(session: &[u8], lent: &LentBuffers) -> Result<(), Refusal>
+    ensures { let l = lent.now in
+        let b = buffers l.discards.now l.actions.now l.clears.now l.status.now in
         number_in result ≡ entry_refusal session.now b }
 {
-    if is_short(discards, actions, clears, status) {
+    if lent.is_short() {
         return Err(Refusal::InvalidLent);
     }
     validate_session(session)?;
-    if !lent_valid(session, discards, actions, clears, status) {
+    if !lent.is_valid(session) {
         return Err(Refusal::InvalidLent);
     }
     Ok(())
@@ -118,7 +113,13 @@ fn submitted(
         (number_in result)
         (buffers discards.new actions.new clears.now status.new) }
 {
-    opened(session, discards, actions, clears, status)?;
+    let lent = LentBuffers {
+        discards,
+        actions,
+        clears,
+        status,
+    };
+    opened(session, &lent)?;
     submit(session, discards, actions, status);
     set_count(discards, 0);
     set_count(actions, 0);
@@ -156,7 +157,13 @@ fn checked(
         (reply_in result)
         (buffers discards.new actions.new clears.new status.now) }
 {
-    opened(session, discards, actions, clears, status)?;
+    let lent = LentBuffers {
+        discards,
+        actions,
+        clears,
+        status,
+    };
+    opened(session, &lent)?;
     if i >= pass_count(session) {
         return Err(Refusal::InvalidPass);
     }

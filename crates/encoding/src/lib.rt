@@ -1,6 +1,7 @@
 // Little-endian numbers and floats, read from bytes, and numbers written into them. Every position has an answer: past the
 // end a byte reads as 0, and a number that does not fit whole is not written. Of the public functions only those whose names
-// end in `inside` have a `requires`: who knows that the bytes lie inside reads or writes them untested.
+// end in `inside` have a `requires`: who knows that the bytes lie inside reads or writes them untested. What reads across the end is kept out of
+// line, so that a reader in line is short.
 #![tactic(auto)]
 
 ghost use Rattle.std.specs.Prelude.{◌≡◌, ◌+◌, ◌*◌, ◌^◌, ◌≤◌, ◌<◌, length, get_or, drop};
@@ -40,6 +41,8 @@ fn rest(s: &[u8], at: usize) -> &[u8]
 }
 
 // Four bytes, each tested by itself.
+#[cold]
+#[inline(never)]
 fn u32_across_end(s: &[u8], at: usize) -> u32
     ensures { result ≡ u32_at s.now at }
 {
@@ -69,6 +72,8 @@ pub fn u32_at(s: &[u8], at: usize) -> u32
 }
 
 // Eight u32, each tested by itself.
+#[cold]
+#[inline(never)]
 fn eight_across_end(s: &[u8], at: usize) -> Eight
     ensures { result ≡ eight_at s.now at }
 {
