@@ -161,7 +161,8 @@ impl<'a> Textures<'a> {
         true
     }
 
-    // How many surfaces the session has, where they are no more than it may have.
+    // How many surfaces the session has, where they are no more than it may have. The count of crate session tests every row and stops past the
+    // most: of one texture it takes half as many instructions as all of `is_valid`.
     fn surface_count(&self) -> usize
         requires { surface_count (session self.now.bytes.now) ≤ max_surfaces }
         ensures { result ≡ surface_count (session self.now.bytes.now) }
@@ -228,7 +229,9 @@ impl LentBuffers<'_> {
             & (count(self.clears) <= MAX_CLEARS)
     }
 
-    // They are valid for a session that is not refused, and long enough. Records are looked at where the counts are within the room.
+    // They are valid for a session that is not refused, and long enough. Records are looked at where the counts are within the room. In line,
+    // the four slices need not go through memory.
+    #[inline(always)]
     pub fn is_valid(&self, s: &[u8]) -> bool
         requires long { let l = self.now in
             too_short (buffers l.discards.now l.actions.now l.clears.now l.status.now) ≡ false }

@@ -13,7 +13,8 @@ ghost use Rattle.definition.specs.Bytes.{u32_at, f32_of_bits, f64_of_bits, bit};
 ghost use Rattle.encoding.specs.Reading.{eight_at};
 ghost use Rattle.encoding.specs.Writing.{put_number};
 
-// Eight u32 that stand in a row.
+// Eight u32 that stand in a row. (Fields and no array: who reads a row takes each number by its place, and an array of them would be filled by a
+// closure over the places, which is no plainer.)
 #[derive(Clone, Copy)]
 pub struct Eight {
     pub n0: u32,
