@@ -8,7 +8,7 @@ use native.Mathlib.Omega.{arith}
 use borrow.Author.Tests.{eq-eqb, ne_eqb}
 use borrow.Rule.Slice.PartMut.{put_mid}
 use lib.ListN.{length, take, drop, length-append, length-drop, length-take}
-use lib.Seq.{length-take-le, take_at, drop_at, take_all, drop-drop, drop-length}
+use lib.Seq.{take_at, drop_at, take_all, drop-drop, drop-length}
 use Rattle.definition.specs.Sizes.{longest_session}
 use Rattle.definition.specs.Session.{session, pass_count, pass_start}
 use Rattle.definition.specs.Readable.{session_refusal}
@@ -98,16 +98,16 @@ module _ (way : Way) (s before : List ℕ) (accepted : session_refusal s ≡ 0) 
         long = omega (arith, ap length whole, length-append (rearranged way s) (drop (length s) before), rearranged_length way s accepted)
 
   -- The same where the start is told, and the front is copied whole.
-  pub printed_from : {start n number : ℕ} {copied after : List ℕ} → start ≡ pass_start s → n ≡ (session s).pass_count
-      → copied ≡ take start s ++ drop start before
-      → Rearranged way n (take (length s - start) (drop start s)) (take (length copied - start) (drop start copied)) number after
+  pub printed_from : {start n number : ℕ} {copied part after : List ℕ} → start ≡ pass_start s → n ≡ (session s).pass_count
+      → copied ≡ take start s ++ drop start before → part ≡ drop start s
+      → Rearranged way n part (take (length copied - start) (drop start copied)) number after
       → Printed before (rearranged way s) (put_mid start (length copied - start) copied after) (length s)
-  printed_from {start} {n} {number} {copied} {after} e counted c r =
+  printed_from {start} {n} {number} {copied} {part} {after} e counted c p r =
       subst (λ (k : ℕ). copied ≡ take k s ++ drop k before → Rearranged way n (drop k s) (drop k copied) number after
       → Printed before (rearranged way s) (put_mid k (length copied - k) copied after) (length s)) (sym e)
       (λ q. printed_session q counted) c
       (subst (λ b. Rearranged way n (drop start s) b number after) (to_the_end start copied)
-      (subst (λ b. Rearranged way n b (take (length copied - start) (drop start copied)) number after) (to_the_end start s) r))
+      (subst (λ b. Rearranged way n b (take (length copied - start) (drop start copied)) number after) p r))
 
 -- ── which files are written so
 
@@ -119,28 +119,24 @@ refused_written : (way : Way) (s : List ℕ) → session_refusal s ≢ 0 → out
 unfolding written
 refused_written way s n = sym (cond_off _ _ _ (ne_eqb (session_refusal s) 0 n))
 
-pub readable_held : (way : Way) (buffer : List ℕ) (held bytes : ℕ) → session_refusal (take held buffer) ≡ 0
-    → rearranged way (take held buffer) ≡ held_written way buffer held bytes
+pub readable_held : (way : Way) (head : List ℕ) (bytes : ℕ) → session_refusal head ≡ 0 → rearranged way head ≡ held_written way head bytes
 unfolding held_written
-readable_held way buffer held bytes z = sym (cond_on _ _ _ (eq-eqb (session_refusal (take held buffer)) 0 z))
+readable_held way head bytes z = sym (cond_on _ _ _ (eq-eqb (session_refusal head) 0 z))
 
-pub refused_held : (way : Way) (buffer : List ℕ) (held bytes : ℕ) → session_refusal (take held buffer) ≢ 0
-    → held_text buffer held bytes ≡ held_written way buffer held bytes
+pub refused_held : (way : Way) (head : List ℕ) (bytes : ℕ) → session_refusal head ≢ 0 → held_text head bytes ≡ held_written way head bytes
 unfolding held_written
-refused_held way buffer held bytes n = sym (cond_off _ _ _ (ne_eqb (session_refusal (take held buffer)) 0 n))
+refused_held way head bytes n = sym (cond_off _ _ _ (ne_eqb (session_refusal head) 0 n))
 
-module _ (way : Way) {buffer : List ℕ} {held bytes : ℕ} {file : List ℕ} (holds : Holds buffer held bytes file) (room : held ≤ length buffer) (enough : Enough held bytes) where
+module _ (way : Way) {head : List ℕ} {bytes : ℕ} {file : List ℕ} (holds : Holds head bytes file) (enough : Enough (length head) bytes) where
   -- What is readable is no longer than a session, and is the file.
-  few : session_refusal (take held buffer) ≡ 0 → held ≤ longest_session
-  few z =
-      by_order held longest_session (λ h. h)
-      (λ h. absurd (long_not_readable (take held buffer) (omega (arith, length-take-le held buffer room)) z))
+  few : session_refusal head ≡ 0 → length head ≤ longest_session
+  few z = by_order (length head) longest_session (λ h. h) (λ h. absurd (long_not_readable head h z))
 
-  pub readable_file : session_refusal (take held buffer) ≡ 0 → rearranged way (take held buffer) ≡ written way file
-  readable_file z = readable_written way (take held buffer) z ∙ ap (written way) (held_whole holds room enough (few z))
+  pub readable_file : session_refusal head ≡ 0 → rearranged way head ≡ written way file
+  readable_file z = readable_written way head z ∙ ap (written way) (held_whole holds enough (few z))
 
   -- What is refused is the file, or the front of one that is longer than any session.
-  pub refused_file : session_refusal (take held buffer) ≢ 0 → output file ≡ written way file
+  pub refused_file : session_refusal head ≢ 0 → output file ≡ written way file
   refused_file n =
       refused_written way file
-      (λ z. by_order held longest_session (λ h. n (ap session_refusal (held_whole holds room enough h) ∙ z)) (λ h. long_not_readable file (held_long holds room h) z))
+      (λ z. by_order (length head) longest_session (λ h. n (ap session_refusal (held_whole holds enough h) ∙ z)) (λ h. long_not_readable file (held_long holds h) z))

@@ -15,7 +15,6 @@ rearranged way s = take (pass_start s) s ++ arranged way (pass_count s) (drop (p
 unfoldable pub written : Way → List ℕ → List ℕ
 written way s = cond (eqb (session_refusal s) 0) (rearranged way s) (output s)
 
--- The same for an input of which a buffer holds the first bytes.
-unfoldable pub held_written : Way → List ℕ → ℕ → ℕ → List ℕ
-held_written way buffer held bytes =
-    cond (eqb (session_refusal (take held buffer)) 0) (rearranged way (take held buffer)) (held_text buffer held bytes)
+-- The same for an input of which the first bytes are held.
+unfoldable pub held_written : Way → List ℕ → ℕ → List ℕ
+held_written way head bytes = cond (eqb (session_refusal head) 0) (rearranged way head) (held_text head bytes)

@@ -5,52 +5,49 @@
 ghost use Rattle.std.specs.Prelude.{◌≡◌, true, false, List, ℕ, ◌≤◌, length, take, MatchResult, IfOk, IfSome};
 ghost use Rattle.definition.specs.Sizes.{longest_session};
 ghost use Rattle.definition.specs.Readable.{session_refusal};
-ghost use Rattle.report.specs.Held.{Enough, Holds};
+ghost use Rattle.report.specs.Held.{Holds};
 ghost use Rattle.report.specs.Printed.{Printed};
 ghost use Rattle.streams.specs.Answered.{Answered};
 ghost use Rattle.column_files.specs.Files.{rearranged, written, held_written};
 
 use columns::{Way, rearrange};
-use report::print_file;
+use report::{File, print_file};
 use session::header::pass_count;
 use session::pass_start;
-use session_validation::session_refusal;
+use session_validation::validate_session;
 use std::io;
 use std::io::Read;
 use streams::{BUFFER_BYTES, read_file};
 
 // A readable session, rearranged: its length.
+#[tactic(auto, using(crate::proofs::Theorem::start_inside, crate::proofs::Written::session_fits))]
 fn put_rearranged(way: Way, session: &[u8], out: &mut [u8]) -> usize
     requires { (session_refusal session.now ≡ 0) × (longest_session ≤ length out.old) }
     ensures { Printed out.old (rearranged way session.now) out.new result }
 {
     let start = pass_start(session);
-    out[..start].copy_from_slice(&session[..start]);
-    rearrange(
-        way,
-        pass_count(session),
-        &session[start..],
-        &mut out[start..],
-    );
+    let (front, passes) = session.split_at(start);
+    out[..start].copy_from_slice(front);
+    rearrange(way, pass_count(session), passes, &mut out[start..]);
     session.len()
 }
 
-// A file of `bytes` bytes, of which the buffer holds the first `held`: the whole file, or more than any session has.
-pub fn write_file(way: Way, buffer: &[u8], held: usize, bytes: u64, out: &mut [u8]) -> usize
-    requires held_in_bounds { (held ≤ length buffer.now) × Enough held bytes }
-    requires longest_session_in_bounds { longest_session ≤ length out.old }
-    ensures printed { Printed out.old (held_written way buffer.now held bytes) out.new result }
-    ensures by_index { (file : List ℕ) → Holds buffer.now held bytes file →
-        take result out.new ≡ written way file }
+// What is written for a file, by what is held of it.
+pub fn write_file(way: Way, file: File<'_>, out: &mut [u8]) -> usize
+    requires { longest_session ≤ length out.old }
+    ensures printed { let held = file.entry in
+        Printed out.old (held_written way held.head.now held.bytes) out.new result }
+    ensures defined { let held = file.entry in
+        (whole : List ℕ) → Holds held.head.now held.bytes whole → take result out.new ≡ written way whole }
 {
-    let session = &buffer[..held];
-    if session_refusal(session) != 0 {
-        return print_file(buffer, held, bytes, out);
+    match validate_session(file.head) {
+        Ok(()) => put_rearranged(way, file.head, out),
+        Err(_) => print_file(file, out),
     }
-    put_rearranged(way, session, out)
 }
 
 // What is to be written for the input: its length. Where reading failed there is nothing.
+// `deskcheck` has the same three lines: shared, they would have each program's contract at a closure too, and be no shorter.
 pub fn answer<R: Read>(way: Way, input: &mut R, out: &mut [u8]) -> io::Result<usize>
     requires { longest_session ≤ length out.old }
     ensures answered { MatchResult result
@@ -62,5 +59,5 @@ pub fn answer<R: Read>(way: Way, input: &mut R, out: &mut [u8]) -> io::Result<us
 {
     let mut buffer = [0u8; BUFFER_BYTES];
     let file = read_file(input, &mut buffer)?;
-    Ok(write_file(way, &buffer, file.held, file.bytes, out))
+    Ok(write_file(way, file, out))
 }

@@ -26,12 +26,12 @@ fn answer<R: Read>(input: &mut R, out: &mut [u8]) -> io::Result<usize>
 {
     let mut buffer = [0u8; BUFFER_BYTES];
     let file = read_file(input, &mut buffer)?;
-    Ok(print_file(&buffer, file.held, file.bytes, out))
+    Ok(print_file(file, out))
 }
 
 // Reads standard input, and prints what the definition says of it.
 fn main(rt: HostRuntime) -> ExitCode {
     let mut out = [0u8; PRINTED_BYTES];
     let text = answer(&mut rt.stdin(), &mut out);
-    write_text(&rt, text, &out)
+    write_text(&rt, text.map(|n| &out[..n]))
 }

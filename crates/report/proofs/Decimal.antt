@@ -1,83 +1,75 @@
--- A number's text is right: it reads back as the number, and only that of 0 starts with "0".
-use mathlib.Core.Path.{◌≡◌, refl, sym, ap, subst, ◌∙◌}
-use mathlib.Core.Logic.{◌≢◌}
-use mathlib.Core.Bool.{Bool, true, false}
-use Prim.Native.Nat.{ℕ, zero, suc, ◌+◌, ◌-◌, ◌*◌, ◌/◌, ◌%◌, ◌^◌, ◌≤◌, ◌<◌}
+-- A number's text is the library's, and right: it reads back as the number, and only that of 0 starts with "0".
+use mathlib.Core.Path.{◌≡◌, refl, sym, ap, ◌∙◌}
+use mathlib.Core.List.{List, [], ◌∷◌, ◌++◌}
+use Prim.Native.Nat.{ℕ, zero, suc, ◌+◌, ◌/◌, ◌%◌, ◌^◌, ◌≤◌, ◌<◌}
 use native.Mathlib.Omega.{arith}
-use native.Mathlib.Nat.{pow-suc, pow-succ', one-le-pow, mod-eq_of_lt, add-mul, mul_assoc, add_assoc, le-div_iff_mul-le, div-lt_iff_lt-mul}
-use borrow.Author.Tests.{ltb-true, ltb-false}
-use lib.Arith.{mod-mul}
+use native.Mathlib.Nat.{pow-succ', div-div-eq-div-mul}
+use mathlib.Core.Bool.{true, false, Bool}
+use borrow.Author.Rules.{rules}
+use borrow.Author.Tests.{lt-ltb, le-ltb}
 use lib.Dec.{ltb}
-use lib.ListN.{get_or}
+use Rattle.std.proofs.lemmas.Fmt.{AppendsLastDigit, decimal_from_appends, length-decimal-le, digits_value-decimal, first_decimal}
+use Rattle.std.proofs.lemmas.Str.Parse.{IsNumeralModel, numerals_by_fold, tells_digits}
+use Rattle.std.specs.Str.Parse.{AllDigits}
+use Rattle.std.specs.Fmt.{decimal as library_decimal}
 use Rattle.report.specs.Text.{zero_digit, max_digits, places, digits, decimal, reads, Says}
 
--- ── k digits read as the number's last k
+-- ── the library's text
 
-regroup : (v d p r : ℕ) → (v * 10 + (zero_digit + d - zero_digit)) * p + r ≡ v * (10 * p) + (d * p + r)
-regroup v d p r =
-    let e : zero_digit + d - zero_digit ≡ d = omega arith in
-    ap (λ x. (v * 10 + x) * p + r) e ∙ ap (λ x. x + r) (add-mul (v * 10) d p ∙ ap (λ x. x + d * p) (mul_assoc v 10 p)) ∙ add_assoc (v * (10 * p)) (d * p) r
-
-ten_pos : (k : ℕ) → 0 < 10 ^ k
-ten_pos k = one-le-pow k 10 (omega arith)
-
-digits_read : (k n v : ℕ) → reads v (digits k n) ≡ v * 10 ^ k + n % 10 ^ k
-unfolding digits
-digits_read zero n v = omega arith
-digits_read (suc k) n v =
-    digits_read k n (v * 10 + (zero_digit + n / 10 ^ k % 10 - zero_digit))
-    ∙ regroup v (n / 10 ^ k % 10) (10 ^ k) (n % 10 ^ k)
-    ∙ ap (λ x. v * (10 * 10 ^ k) + x) (sym (mod-mul n (omega arith) (ten_pos k)))
-    ∙ ap (λ x. v * x + n % x) (sym (pow-succ' 10 k))
-
--- ── as many digits are counted as the number has
-
-record Counted (f k n : ℕ) : Type 0 where
-  more : ℕ
-  count : places f k n ≡ k + more
-  below : n < 10 ^ suc more
-  above : 0 < n → 10 ^ more ≤ n
-
-counted : (f k n : ℕ) → n < 10 ^ suc f → Counted f k n
+-- One that was counted already is one more.
+places_more : (f k n : ℕ) → places f (k + 1) n ≡ places f k n + 1
 unfolding places
-counted zero k n h = record { more = 0; count = omega arith; below = h; above = λ l. omega arith }
-counted (suc f) k n h = go (counted f (k + 1) (n / 10)) (ltb n 10) refl
+places_more zero k n = refl
+places_more (suc f) k n = go (places_more f (k + 1) (n / 10)) (ltb n 10) refl
   where
-    go : (n / 10 < 10 ^ suc f → Counted f (k + 1) (n / 10)) → (b : Bool) → ltb n 10 ≡ b → Counted (suc f) k n
-    go rest true e =
-        let l : n < 10 = ltb-true n 10 e in
-        record { more = 0; count = simp e (omega arith); below = l; above = λ z. z }
-    go rest false e =
-        let l : 10 ≤ n = ltb-false n 10 e in
-        let q : n < 10 ^ suc f * 10 = subst (λ x. n < x) (pow-suc 10 (suc f)) h in
-        let c = rest (omega arith) in
-        let above : 10 ^ c.more ≤ n / 10 = c.above (omega arith) in
-        record {
-          more = suc c.more;
-          count = simp e (c.count ∙ omega arith);
-          below = rw (pow-suc 10 (suc c.more)) (omega (arith, c.below));
-          above = λ z. rw (pow-suc 10 c.more) (omega (arith, above));
-        }
+    go : places f (k + 1 + 1) (n / 10) ≡ places f (k + 1) (n / 10) + 1 → (b : Bool) → ltb n 10 ≡ b → places (suc f) (k + 1) n ≡ places (suc f) k n + 1
+    go rest true e = simp e refl
+    go rest false e = simp e rest
+
+-- The last digit stands behind the digits of a tenth.
+digits_last : (m n : ℕ) → digits (suc m) n ≡ digits m (n / 10) ++ ((zero_digit + n % 10) ∷ [])
+unfolding digits
+digits_last zero n =
+    let whole : n / 10 ^ 0 ≡ n = omega arith in
+    ap (λ (k : ℕ). (zero_digit + k % 10) ∷ []) whole
+digits_last (suc m) n =
+    let tenth : n / 10 ^ suc m ≡ n / 10 / 10 ^ m = ap (λ (k : ℕ). n / k) (pow-succ' 10 m) ∙ sym (div-div-eq-div-mul n 10 (10 ^ m)) in
+    ap (λ (k : ℕ). (zero_digit + k % 10) ∷ digits (suc m) n) tenth ∙ ap (λ l. (zero_digit + n / 10 / 10 ^ m % 10) ∷ l) (digits_last m n)
+
+-- At most so many digits.
+text_within : ℕ → ℕ → List ℕ
+text_within zero n = []
+text_within (suc k) n = digits (places k 1 n) n
+
+one_digit : (k n : ℕ) → n < 10 → text_within (suc k) n ≡ (zero_digit + n) ∷ []
+unfolding places digits text_within
+one_digit k n h = ap (λ (i : ℕ). digits i n) (counted k) ∙ digits_last 0 n ∙ ap (λ (d : ℕ). (zero_digit + d) ∷ []) (omega arith)
+  where
+    counted : (k : ℕ) → places k 1 n ≡ 1
+    counted zero = refl
+    counted (suc k) = simp (lt-ltb n 10 h) refl
+
+more_digits : (k n : ℕ) → 10 ≤ n → text_within (suc k) n ≡ text_within k (n / 10) ++ ((zero_digit + n % 10) ∷ [])
+unfolding places digits text_within
+more_digits zero n h = digits_last 0 n
+more_digits (suc k) n h =
+    let counted : places (suc k) 1 n ≡ suc (places k 1 (n / 10)) = simp (le-ltb n 10 h) (places_more k 1 (n / 10) ∙ omega arith) in
+    ap (λ (i : ℕ). digits i n) counted ∙ digits_last (places k 1 (n / 10)) n
+
+appends : AppendsLastDigit text_within
+appends = record { one = one_digit; more = more_digits }
+
+pub decimal_same : (n : ℕ) → n < 2 ^ 32 → decimal n ≡ library_decimal n
+unfolding decimal text_within
+decimal_same n h = decimal_from_appends text_within appends max_digits n (omega arith) (length-decimal-le max_digits n (omega arith) (omega arith) (omega arith))
 
 -- ── so the text of a u32 says it
 
-read_back : (n : ℕ) → n < 10 ^ max_digits → reads 0 (decimal n) ≡ n
-unfolding decimal
-read_back n h =
-    let c = counted (max_digits - 1) 1 n h in
-    let e : places (max_digits - 1) 1 n ≡ suc c.more = c.count ∙ omega arith in
-    let whole : n % 10 ^ suc c.more ≡ n = mod-eq_of_lt c.below in
-    ap (λ k. reads 0 (digits k n)) e ∙ digits_read (suc c.more) n 0 ∙ omega (arith, whole)
+own : IsNumeralModel (AllDigits 10) (reads 0)
+own = numerals_by_fold _ tells_digits reads (search rules)
 
-no_leading_zero : (n : ℕ) → 0 < n → n < 10 ^ max_digits → get_or (decimal n) 0 0 ≢ zero_digit
-unfolding decimal digits
-no_leading_zero n l h z =
-    let c = counted (max_digits - 1) 1 n h in
-    let e : places (max_digits - 1) 1 n ≡ suc c.more = c.count ∙ omega arith in
-    let first : zero_digit + n / 10 ^ c.more % 10 ≡ zero_digit = sym (ap (λ k. get_or (digits k n) 0 0) e) ∙ z in
-    let low : 1 ≤ n / 10 ^ c.more = (le-div_iff_mul-le (ten_pos c.more)).1 (omega (arith, c.above l)) in
-    let high : n / 10 ^ c.more < 10 = (div-lt_iff_lt-mul (ten_pos c.more)).1 (rw (pow-succ' 10 c.more) at c.below) in
-    omega arith
-
-pub decimal_says : (n : ℕ) → n < 10 ^ max_digits → Says n (decimal n)
-decimal_says n h = record { number = read_back n h; no_leading_zero = λ l. no_leading_zero n l h }
+pub decimal_says : (n : ℕ) → n < 2 ^ 32 → Says n (decimal n)
+decimal_says n h =
+    let e = decimal_same n h in
+    let big : n < 2 ^ 64 = omega arith in
+    rw e (record { number = digits_value-decimal own n big; no_leading_zero = λ l z. omega (arith, z, first_decimal n l big) })

@@ -1,11 +1,12 @@
 -- Laws of texts that are written: one behind another is both; at the front of a buffer, the text is what its first bytes are.
 use mathlib.Core.Path.{◌≡◌, refl, sym, ap, ◌∙◌}
-use mathlib.Core.List.{List, [], ◌∷◌, ◌++◌}
-use Prim.Native.Nat.{ℕ, suc, ◌+◌, ◌≤◌}
+use mathlib.Core.List.{List, [], ◌∷◌, ◌++◌, append_assoc}
+use Prim.Native.Nat.{ℕ, suc, ◌+◌, ◌-◌, ◌≤◌}
 use native.Mathlib.Omega.{arith}
 use native.Mathlib.Nat.{add-zero}
 use lib.ListN.{length, take, drop, set, length-append, length-take}
-use lib.Seq.{sets, sets-eq, length-sets, take_at, drop_at}
+use borrow.Rule.Slice.PartMut.{put_mid}
+use lib.Seq.{sets, sets-eq, length-sets, take_at, drop_at, drop-drop}
 use Rattle.report.specs.Put.{Put}
 use Rattle.report.specs.Printed.{Printed}
 
@@ -15,6 +16,25 @@ sets_append [] ys l i = ap (λ k. sets l k ys) (sym (add-zero i))
 sets_append (x ∷ xs) ys l i =
     let e : suc i + length xs ≡ i + suc (length xs) = omega arith in
     sets_append xs ys (set l i x) (suc i) ∙ ap (λ k. sets (sets (set l i x) (suc i) xs) k ys) e
+
+-- Bytes that are copied into the middle.
+pub put_middle : (l xs copied : List ℕ) (i : ℕ) → i + length xs ≤ length l → copied ≡ xs
+    → Put l i xs (put_mid i (i + length xs - i) l copied) (i + length xs)
+put_middle l xs copied i h e =
+    let count : i + length xs - i ≡ length xs = omega arith in
+    record {
+      bytes =
+          ap (λ (k : ℕ). put_mid i k l copied) count
+          ∙ ap (λ m. take i l ++ (m ++ drop (length xs) (drop i l))) e
+          ∙ ap (λ m. take i l ++ (xs ++ m)) (drop-drop (length xs) i l)
+          ∙ sym (append_assoc (take i l) xs (drop (i + length xs) l))
+          ∙ sym (sets-eq xs l i h);
+      behind = refl;
+    }
+
+-- The buffer has the length that it had.
+pub put_length : {l m xs : List ℕ} {i k : ℕ} → Put l i xs m k → length m ≡ length l
+put_length {l} {xs = xs} {i = i} p = ap length p.bytes ∙ length-sets l i xs
 
 -- Nothing is written.
 pub put_none : (l : List ℕ) (i : ℕ) → Put l i [] l i

@@ -1,7 +1,7 @@
--- Texts, computed; and what a buffer holds.
+-- Texts, computed; and what is held of a file.
 use Rattle.std.specs.Prelude.{◌≡◌, refl, List, [], ◌∷◌, ◌++◌, ℕ, length}
-use Rattle.std.proofs.Common.{sym, ◌∙◌, inl}
-use Rattle.std.proofs.Math.Seq.{take-length, take-append_seam}
+use Rattle.std.proofs.Common.{inl}
+use Rattle.std.proofs.Math.Seq.{take-append_seam}
 use Rattle.definition.specs.Sessions.{example}
 use Rattle.definition.specs.Computing.{computing}
 use Rattle.report.specs.Text.{places, digits, decimal, joined, line_text, lines_text, refusal_text}
@@ -26,6 +26,6 @@ empty_output : output [] ≡ (115 ∷ 101 ∷ 115 ∷ 115 ∷ 105 ∷ 111 ∷ 11
 unfolding computing places digits decimal joined line_text lines_text refusal_text output
 empty_output = refl
 
--- A file's first bytes are held by a buffer that is filled with them, and told its length.
-front_held : (first rest : List ℕ) → Holds first (length first) (length (first ++ rest)) (first ++ rest)
-front_held first rest = record { front = take-append_seam first rest ∙ sym (take-length first); counted = inl refl }
+-- A file's first bytes are held of it, and its length is told.
+front_held : (first rest : List ℕ) → Holds first (length (first ++ rest)) (first ++ rest)
+front_held first rest = record { front = take-append_seam first rest; counted = inl refl }

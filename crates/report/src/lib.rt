@@ -1,51 +1,78 @@
 // What `deskcheck` prints for a file, written to the front of a buffer of `PRINTED_BYTES` bytes: a line a pass.
-// In `text` numbers and lines as bytes, in `oversize` the refusal of a file that is longer than any session.
+// In `text` numbers and lines as bytes, in `file` what is held of a file, in `oversize` the refusal of one that is longer than any session.
 #![tactic(auto)]
 
+mod file;
 mod oversize;
 mod text;
 
-ghost use Rattle.std.specs.Prelude.{◌≡◌, List, ℕ, ◌*◌, ◌≤◌, length, take};
+ghost use Rattle.std.specs.Prelude.{◌≡◌, List, ℕ, ◌+◌, ◌*◌, ◌≤◌, length, take};
 ghost use Rattle.definition.specs.Session.{session};
 ghost use Rattle.definition.specs.Readable.{session_refusal};
-ghost use Rattle.whole_session.specs.Rows.{first_rows, Reached};
-ghost use Rattle.report.specs.Text.{line_bytes, lines_text, printed_bytes};
-ghost use Rattle.report.specs.Put.{Put};
+ghost use Rattle.definition.specs.Refusals.{number_of};
+ghost use Rattle.whole_session.specs.Rows.{first_rows};
+ghost use Rattle.report.specs.Text.{line_bytes, lines_text, printed_bytes, refusal_text, refusal_bytes};
+ghost use Rattle.report.specs.Appended.{Appended};
 ghost use Rattle.report.specs.Output.{output};
-ghost use Rattle.report.specs.Held.{Enough, Holds, held_text};
+ghost use Rattle.report.specs.Held.{Holds, held_text};
 ghost use Rattle.report.specs.Printed.{Printed};
 
+use definition::refusals::Refusal;
 use definition::sizes::{DISCARDS_BYTES, LONGEST_SESSION, MAX_PASSES};
+pub use file::File;
 use oversize::oversize_refusal;
 pub use oversize::past_length_field;
 use session::header::pass_count;
-use session_validation::session_refusal;
-use text::{LINE_BYTES, put_line, put_refusal};
+use session_validation::validate_session;
+use text::{LINE_BYTES, Text};
 use whole_session::next_row;
 
 // Bytes that the text for every file fits in.
 pub const PRINTED_BYTES: usize = LINE_BYTES * (MAX_PASSES as usize);
 
-// The lines of so many passes, at the front: each pass is judged, and its line is written, from no discards and no actions on.
-fn put_lines(s: &[u8], passes: u32, discards: &mut [u8], out: &mut [u8]) -> usize
-    requires s_value { session_refusal s.now ≡ 0 }
-    requires reached { Reached (session s.now) passes 0 discards.old 0 }
-    requires passes_in_bounds { line_bytes * passes ≤ length out.old }
-    ensures fact { let rows = first_rows (session s.now) passes passes in
-        Put out.old 0 (lines_text rows) out.new result }
-    ensures upper_bound { result ≤ line_bytes * passes }
+// The lines of so many passes: each pass is judged, and its line is written, from no discards and no actions on.
+fn push_lines(s: &[u8], passes: u32, text: &mut Text<'_>)
+    requires readable { session_refusal s.now ≡ 0 }
+    requires room { text.old.end + line_bytes * passes ≤ length text.old.buffer.now }
+    ensures appended { let rows = first_rows (session s.now) passes passes in
+        Appended text.old (lines_text rows) text.new }
+    ensures a_line_each { text.new.end ≤ text.old.end + line_bytes * passes }
 {
+    let mut discards: [u8; DISCARDS_BYTES] = [0; DISCARDS_BYTES];
     let mut actions: usize = 0;
-    let mut p: usize = 0;
-    let mut k = 0u32;
-    while k < passes {
-        let row = next_row(s, k, passes, discards, actions);
-        let numbers = row.numbers;
-        p = put_line(numbers, out, p);
+    for k in 0..passes {
+        let row = next_row(s, k, passes, &mut discards, actions);
+        text.push_line(&row.numbers);
         actions = row.actions;
-        k += 1;
     }
-    p
+}
+
+// The lines of a readable session.
+fn print_lines(session: &[u8], out: &mut [u8]) -> usize
+    requires readable { session_refusal session.now ≡ 0 }
+    requires room { printed_bytes ≤ length out.old }
+    ensures { Printed out.old (output session.now) out.new result }
+{
+    let mut text = Text {
+        buffer: out,
+        end: 0,
+    };
+    push_lines(session, pass_count(session), &mut text);
+    text.end
+}
+
+// The line of a refused session.
+fn print_refusal(refusal: Refusal, out: &mut [u8]) -> usize
+    requires { printed_bytes ≤ length out.old }
+    ensures printed { Printed out.old (refusal_text (number_of refusal)) out.new result }
+    ensures short { result ≤ refusal_bytes }
+{
+    let mut text = Text {
+        buffer: out,
+        end: 0,
+    };
+    text.push_refusal(refusal.number());
+    text.end
 }
 
 // A file that the caller holds whole.
@@ -53,25 +80,22 @@ fn print_session(session: &[u8], out: &mut [u8]) -> usize
     requires { printed_bytes ≤ length out.old }
     ensures { Printed out.old (output session.now) out.new result }
 {
-    let number = session_refusal(session);
-    if number != 0 {
-        return put_refusal(number, out);
+    match validate_session(session) {
+        Ok(()) => print_lines(session, out),
+        Err(refusal) => print_refusal(refusal, out),
     }
-    let mut discards: [u8; DISCARDS_BYTES] = [0; DISCARDS_BYTES];
-    put_lines(session, pass_count(session), &mut discards, out)
 }
 
-// A file of `bytes` bytes, of which the buffer holds the first `held`: the whole file, or more than any session has.
-// The text is told from these for any bytes; of every file that they are of, it is the definition's.
-pub fn print_file(buffer: &[u8], held: usize, bytes: u64, out: &mut [u8]) -> usize
-    requires held_in_bounds { (held ≤ length buffer.now) × Enough held bytes }
-    requires printed_bytes_in_bounds { printed_bytes ≤ length out.old }
-    ensures printed { Printed out.old (held_text buffer.now held bytes) out.new result }
-    ensures by_index { (file : List ℕ) → Holds buffer.now held bytes file →
-        take result out.new ≡ output file }
+// The text for what is held of a file. It is told from that alone; of every file that it is of, it is the definition's.
+pub fn print_file(file: File<'_>, out: &mut [u8]) -> usize
+    requires { printed_bytes ≤ length out.old }
+    ensures printed { let held = file.entry in
+        Printed out.old (held_text held.head.now held.bytes) out.new result }
+    ensures defined { let held = file.entry in
+        (whole : List ℕ) → Holds held.head.now held.bytes whole → take result out.new ≡ output whole }
 {
-    if held <= LONGEST_SESSION {
-        return print_session(&buffer[..held], out);
+    if file.head.len() <= LONGEST_SESSION {
+        return print_session(file.head, out);
     }
-    put_refusal(oversize_refusal(buffer, bytes), out)
+    print_refusal(oversize_refusal(file.head, file.bytes), out)
 }

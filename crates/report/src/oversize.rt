@@ -1,6 +1,7 @@
 // The refusal of a file that is longer than any session, told from its header and its true length.
 // A program whose buffer holds every session can answer for every file so.
 ghost use Rattle.std.specs.Prelude.{◌≡◌, ◌<◌, leb};
+ghost use Rattle.definition.specs.Refusals.{number_of};
 ghost use Rattle.definition.specs.Session as Se;
 ghost use Rattle.report.specs.Oversize.{length_bound, oversize_number};
 
@@ -19,13 +20,13 @@ pub fn past_length_field(bytes: u64) -> bool
 }
 
 // 1 where the length field is wrong, else 2.
-pub fn oversize_refusal(head: &[u8], bytes: u64) -> u32
-    ensures value { result ≡ oversize_number (Se.total_length head.now) bytes }
-    ensures head_in_bounds { Se.total_length head.now < length_bound }
+pub fn oversize_refusal(head: &[u8], bytes: u64) -> Refusal
+    ensures number { number_of result ≡ oversize_number (Se.total_length head.now) bytes }
+    ensures below_the_bound { Se.total_length head.now < length_bound }
 {
     if u32_at(head, TOTAL_LENGTH_AT) as u64 == bytes {
-        Refusal::InvalidHeader.number()
+        Refusal::InvalidHeader
     } else {
-        Refusal::WrongLength.number()
+        Refusal::WrongLength
     }
 }

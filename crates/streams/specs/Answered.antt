@@ -3,21 +3,20 @@ use Rattle.std.specs.Prelude.{◌≡◌, Bool, true, false, List, ℕ, ◌≤◌
 use Rattle.report.specs.Held.{Enough, Holds}
 use Rattle.report.specs.Printed.{Printed}
 
--- The text of n bytes for what is read. A program says which it is: `of_held` for an input's first bytes, their number and its length,
--- and `of_file` for a whole file.
-pub record TextOf (of_held : List ℕ → ℕ → ℕ → List ℕ) (of_file : List ℕ → List ℕ) (before after : List ℕ) (n : ℕ) : Type 0 where
-  -- The bytes that were read first, how many, and the length of the input: all of it, or more than any session has.
-  pub buffer : List ℕ
-  pub held : ℕ
+-- The text of n bytes for what is read. A program says which it is: `of_held` for an input's first bytes and its length, and `of_file`
+-- for a whole file.
+pub record TextOf (of_held : List ℕ → ℕ → List ℕ) (of_file : List ℕ → List ℕ) (before after : List ℕ) (n : ℕ) : Type 0 where
+  -- The bytes that were read first, and the length of the input: all of it, or more than any session has.
+  pub head : List ℕ
   pub bytes : ℕ
-  pub enough : Enough held bytes
+  pub enough : Enough (length head) bytes
   -- Their text is at the front, and what stands behind it stays.
-  pub printed : Printed before (of_held buffer held bytes) after n
+  pub printed : Printed before (of_held head bytes) after n
   -- Of every file that they are of, it is the definition's.
-  pub defined : (file : List ℕ) → Holds buffer held bytes file → take n after ≡ of_file file
+  pub defined : (file : List ℕ) → Holds head bytes file → take n after ≡ of_file file
 
 -- n bytes, and whether a read failed.
-pub record Answered (of_held : List ℕ → ℕ → ℕ → List ℕ) (of_file : List ℕ → List ℕ) (before after : List ℕ) (n : ℕ) (failed : Bool) : Type 0 where
+pub record Answered (of_held : List ℕ → ℕ → List ℕ) (of_file : List ℕ → List ℕ) (before after : List ℕ) (n : ℕ) (failed : Bool) : Type 0 where
   -- The buffer has n bytes.
   pub fits : n ≤ length after
   pub counted : n ≡ length (take n after)

@@ -5,27 +5,20 @@
 // and output it is not: there it remains to be believed that a read gives the input's next bytes and a write puts out those that it is given.
 #![tactic(auto)]
 
-ghost use Rattle.std.specs.Prelude.{◌≡◌, ℕ, List, ◌+◌, ◌≤◌, ◌<◌, length, take, drop, IfOk, IfSome, OnOk, OnErr};
+ghost use Rattle.std.specs.Prelude.{◌≡◌, ℕ, List, ◌+◌, ◌≤◌, ◌<◌, length, take, drop, MatchResult, IfOk, IfSome, OnOk, OnErr};
 ghost use Rattle.std.specs.Io.KnownBytes.{Appends, Consumes, IsAtEnd, Keeps};
 ghost use Rattle.std.specs.Process.{exit_status};
 ghost use Rattle.definition.specs.Sizes.{longest_session};
 ghost use Rattle.report.specs.Oversize.{length_bound};
-ghost use Rattle.report.specs.Held.{Enough, Holds};
+ghost use Rattle.report.specs.Held.{Holds};
 
-use report::past_length_field;
+use report::{File, past_length_field};
 use std::io;
 use std::io::{Eprint, Print, Read, Write};
 use std::process::ExitCode;
 
 // Bytes of a buffer that is longer than any session.
 pub const BUFFER_BYTES: usize = 65536;
-
-// What was read: the buffer holds the first `held` bytes of an input of `bytes` bytes.
-#[derive(Clone, Copy)]
-pub struct File {
-    pub held: usize,
-    pub bytes: u64,
-}
 
 // One read, into the bytes from a place on. 0 bytes are the end of the input.
 fn read_from<R: Read>(input: &mut R, buf: &mut [u8], at: usize) -> io::Result<usize>
@@ -41,7 +34,7 @@ fn read_from<R: Read>(input: &mut R, buf: &mut [u8], at: usize) -> io::Result<us
     input.read(&mut buf[at..])
 }
 
-// Reads until the buffer is full or the input ends.
+// Reads until the buffer is full or the input ends. The library's readers fill exactly, or a vector of the heap.
 pub fn read_head<R: Read>(input: &mut R, buf: &mut [u8]) -> io::Result<usize>
     ensures fits { IfOk result (λ n. n ≤ length buf.new) }
     ensures ok { IfOk result (λ n.
@@ -63,6 +56,7 @@ pub fn read_head<R: Read>(input: &mut R, buf: &mut [u8]) -> io::Result<usize>
 }
 
 // Reads on from so many bytes, to the end of the input or to a length that no length field has.
+// The library's `copy` does not say what was read before a failure.
 fn read_rest<R: Read>(input: &mut R, from: u64) -> io::Result<u64>
     ensures grows { IfOk result (λ n. from ≤ n) }
     ensures ok { IfOk result (λ n. (bs : List ℕ) × (n ≡ from + length bs)
@@ -83,38 +77,37 @@ fn read_rest<R: Read>(input: &mut R, from: u64) -> io::Result<u64>
 }
 
 // Reads the input: the whole of it into the buffer, or as much as the buffer holds, and the rest is counted.
-pub fn read_file<R: Read>(input: &mut R, buf: &mut [u8]) -> io::Result<File>
+pub fn read_file<'a, R: Read>(input: &mut R, buf: &'a mut [u8]) -> io::Result<File<'a>>
     requires { longest_session < length buf.old }
-    ensures ok { IfOk result (λ file. (file.held ≤ length buf.new) × Enough file.held file.bytes) }
+    ensures fits { IfOk result (λ file. length file.head.now ≤ length buf.old) }
     ensures known { IfOk result (λ file. IfSome (R.remaining input.old) (λ xs.
-        Holds buf.new file.held file.bytes xs)) }
+        Holds file.head.now file.bytes xs)) }
     ensures err { OnErr result ((bs : List ℕ) × Consumes (R.remaining input.old) (R.remaining input.new) bs) }
 {
     let held = read_head(input, buf)?;
     if held < buf.len() {
         return Ok(File {
-            held: held,
+            head: &buf[..held],
             bytes: held as u64,
         });
     }
     let bytes = read_rest(input, held as u64)?;
     Ok(File {
-        held: held,
+        head: buf,
         bytes: bytes,
     })
 }
 
-// Writes the first bytes.
-pub fn write_first<W: Write>(output: &mut W, n: usize, out: &[u8]) -> io::Result<()>
-    requires { n ≤ length out.now }
-    ensures ok { OnOk result (Appends (W.contents output.old) (W.contents output.new) (take n out.now)) }
+// Writes all bytes. The library's `write_all` does not say what was written before a failure.
+pub fn write_bytes<W: Write>(output: &mut W, bytes: &[u8]) -> io::Result<()>
+    ensures ok { OnOk result (Appends (W.contents output.old) (W.contents output.new) bytes.now) }
     // What was written before the failure.
-    ensures err { OnErr result ((k : ℕ) × (k ≤ n)
-        × Appends (W.contents output.old) (W.contents output.new) (take k out.now)) }
+    ensures err { OnErr result ((k : ℕ) × (k ≤ length bytes.now)
+        × Appends (W.contents output.old) (W.contents output.new) (take k bytes.now)) }
 {
     let mut done: usize = 0;
-    while done < n {
-        let more = output.write(&out[done..n])?;
+    while done < bytes.len() {
+        let more = output.write(&bytes[done..])?;
         if more == 0 {
             return Err(io::Error::from(io::ErrorKind::WriteZero));
         }
@@ -131,17 +124,23 @@ fn fail<R: Eprint>(rt: &R, stream: &str, error: io::Error) -> ExitCode
     ExitCode::FAILURE
 }
 
-// Writes the first bytes to standard output, unless a read failed.
-pub fn write_text<R: Print + Eprint>(rt: &R, text: io::Result<usize>, out: &[u8]) -> ExitCode
-    requires { IfOk text (λ n. n ≤ length out.now) }
-    ensures { OnErr text (exit_status result ≡ 1) }
+// The status of a program that has written: 0, or 1 where it failed.
+fn status<R: Eprint>(rt: &R, written: io::Result<()>) -> ExitCode
+    ensures { MatchResult written (λ _. exit_status result ≡ 0) (λ _. exit_status result ≡ 1) }
 {
-    let n = match text {
-        Ok(n) => n,
-        Err(error) => return fail(rt, "standard input", error),
-    };
-    match write_first(&mut io::writer(rt), n, out) {
+    match written {
         Ok(()) => ExitCode::SUCCESS,
         Err(error) => fail(rt, "standard output", error),
+    }
+}
+
+// Writes a text to standard output, unless a read failed: the status of the program.
+pub fn write_text<R: Print + Eprint>(rt: &R, text: io::Result<&[u8]>) -> ExitCode
+    ensures failed { OnErr text.entry (exit_status result ≡ 1) }
+    ensures zero_or_one { exit_status result ≤ 1 }
+{
+    match text {
+        Ok(bytes) => status(rt, write_bytes(&mut io::writer(rt), bytes)),
+        Err(error) => fail(rt, "standard input", error),
     }
 }

@@ -10,5 +10,5 @@ use streams::{BUFFER_BYTES, write_text};
 fn main(rt: HostRuntime) -> ExitCode {
     let mut out = [0u8; BUFFER_BYTES];
     let text = answer(Way::Rows, &mut rt.stdin(), &mut out);
-    write_text(&rt, text, &out)
+    write_text(&rt, text.map(|n| &out[..n]))
 }
