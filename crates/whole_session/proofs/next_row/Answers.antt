@@ -14,17 +14,17 @@ summarize-said-requires c =
 pub returns-then-ends_buffer : goal.returns-then-ends_buffer
 returns-then-ends_buffer c =
     let row = c.pass_row-pass.ensures in
-    let said = simp row.pass at c.summarize-said.ensures in
+    let said = simp (row.session, row.pass) at c.summarize-said.ensures in
     record {
       row = row_told _ _ _ _ _ c.requires.reached _ _ said _ c.count.ensures;
-      next = next_ended _ _ _ _ _ c.requires.reached _ _ said _ (simp (row.session, row.pass) at (sym c.ends_buffer.ensures ∙ c.if-ends_buffer.true)) (search rules) c.set_count.ensures;
+      next = next_ended _ _ _ _ _ c.requires.reached _ _ said _ (simp row.pass at (sym c.ends_buffer.ensures ∙ c.if-ends_buffer.true)) (search rules) c.set_count.ensures;
     }
 
 pub returns-else-ends_buffer : goal.returns-else-ends_buffer
 returns-else-ends_buffer c =
     let row = c.pass_row-pass.ensures in
-    let said = simp row.pass at c.summarize-said.ensures in
+    let said = simp (row.session, row.pass) at c.summarize-said.ensures in
     record {
       row = row_told _ _ _ _ _ c.requires.reached _ _ said _ c.count.ensures;
-      next = next_on _ _ _ _ _ c.requires.reached _ _ said (simp (row.session, row.pass) at (sym c.ends_buffer.ensures ∙ c.if-ends_buffer.false));
+      next = next_on _ _ _ _ _ c.requires.reached _ _ said (simp row.pass at (sym c.ends_buffer.ensures ∙ c.if-ends_buffer.false));
     }
