@@ -1,36 +1,28 @@
 -- A text is what is printed for a file, readable or refused.
-use mathlib.Core.Path.{◌≡◌, sym, ap, subst, ◌∙◌}
+use mathlib.Core.Path.{◌≡◌, sym, ap, ◌∙◌}
 use mathlib.Core.Logic.{◌≢◌}
 use mathlib.Core.List.{List}
 use mathlib.Core.Bool.{Bool, true, false, cond}
-use Prim.Native.Nat.{ℕ, ◌≤◌, ◌<◌}
+use Prim.Native.Nat.{ℕ, ◌<◌}
 use native.Mathlib.Omega.{arith}
 use borrow.Author.Rules.{rules}
 use borrow.Author.Tests.{eq-eqb, ne_eqb}
 use lib.Dec.{eqb}
 use lib.ListN.{length}
-use Rattle.definition.specs.Sizes.{max_passes, longest_session}
-use Rattle.definition.specs.Session.{session, total_length}
+use Rattle.definition.specs.Sizes.{longest_session}
+use Rattle.definition.specs.Session.{total_length}
 use Rattle.definition.specs.Readable.{session_refusal}
 use Rattle.definition.specs.Refusals.{number_of}
 use Rattle.definition.specs.declared.refusals.Refusal.{Refusal}
 use Rattle.definition.specs.Program.{deskcheck}
-use Rattle.session_validation.proofs.Valid.{valid_of}
-use Rattle.whole_session.specs.Rows.{first_rows}
-use Rattle.whole_session.proofs.Rows.{rows_all}
 use Rattle.report.specs.Text.{lines_text, refusal_text}
 use Rattle.report.specs.Output.{output}
 use Rattle.report.proofs.Long.{long_refused}
 
--- The rows of a readable session, as lines.
-pub printed_rows : (s : List ℕ) (n : ℕ) → session_refusal s ≡ 0 → n ≡ (session s).pass_count → lines_text (first_rows (session s) n n) ≡ output s
-unfolding output deskcheck
-printed_rows s n z p =
-    ap (λ (k : ℕ). lines_text (first_rows (session s) k k)) p ∙ ap lines_text (rows_all (session s) (session s).pass_count) ∙ simp (eq-eqb (session_refusal s) 0 z)
-
--- It has no more than the most passes.
-pub rows_few : (s : List ℕ) (n : ℕ) → session_refusal s ≡ 0 → n ≡ (session s).pass_count → n ≤ max_passes
-rows_few s n z p = subst (λ k. k ≤ max_passes) (sym p) (valid_of s z).passes
+-- The lines of a readable session.
+pub printed_lines : (s : List ℕ) → session_refusal s ≡ 0 → lines_text (deskcheck s) ≡ output s
+unfolding output
+printed_lines s z = simp (eq-eqb (session_refusal s) 0 z)
 
 -- The line of a refused one.
 pub printed_refusal : (s : List ℕ) (n : ℕ) → n ≡ session_refusal s → n ≢ 0 → refusal_text n ≡ output s

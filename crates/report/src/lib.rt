@@ -7,10 +7,9 @@ mod oversize;
 mod text;
 
 ghost use Rattle.std.specs.Prelude.{◌≡◌, List, ℕ, ◌+◌, ◌*◌, ◌≤◌, length, take};
-ghost use Rattle.definition.specs.Session.{session};
 ghost use Rattle.definition.specs.Readable.{session_refusal};
 ghost use Rattle.definition.specs.Refusals.{number_of};
-ghost use Rattle.whole_session.specs.Rows.{first_rows};
+ghost use Rattle.definition.specs.Program.{deskcheck};
 ghost use Rattle.report.specs.Text.{line_bytes, lines_text, printed_bytes, refusal_text, refusal_bytes};
 ghost use Rattle.report.specs.Appended.{Appended};
 ghost use Rattle.report.specs.Output.{output};
@@ -18,36 +17,30 @@ ghost use Rattle.report.specs.Held.{Holds, held_text};
 ghost use Rattle.report.specs.Printed.{Printed};
 
 use definition::refusals::Refusal;
-use definition::sizes::{DISCARDS_BYTES, LONGEST_SESSION, MAX_PASSES};
+use definition::sizes::{LONGEST_SESSION, MAX_PASSES};
 pub use file::File;
 use oversize::oversize_refusal;
 pub use oversize::past_length_field;
-use session::header::pass_count;
 use session_validation::validate_session;
 use text::{LINE_BYTES, Text};
-use whole_session::next_row;
+use whole_session::Walk;
 
 // Bytes that the text for every file fits in.
 pub const PRINTED_BYTES: usize = LINE_BYTES * (MAX_PASSES as usize);
 
-// The lines of so many passes: each pass is judged, and its line is written, from no discards and no actions on.
-fn push_lines(s: &[u8], passes: u32, text: &mut Text<'_>)
+// The lines of a readable session: each pass is judged, and its line is written.
+fn push_lines(s: &[u8], text: &mut Text<'_>)
     requires readable { session_refusal s.now ≡ 0 }
-    requires room { text.old.end + line_bytes * passes ≤ length text.old.buffer.now }
-    ensures appended { let rows = first_rows (session s.now) passes passes in
-        Appended text.old (lines_text rows) text.new }
-    ensures a_line_each { text.new.end ≤ text.old.end + line_bytes * passes }
+    requires room { text.old.end + printed_bytes ≤ length text.old.buffer.now }
+    ensures appended { Appended text.old (lines_text (deskcheck s.now)) text.new }
+    ensures a_line_each { text.new.end ≤ text.old.end + printed_bytes }
 {
-    let mut discards: [u8; DISCARDS_BYTES] = [0; DISCARDS_BYTES];
-    let mut actions: usize = 0;
-    for k in 0..passes {
-        let row = next_row(s, k, passes, &mut discards, actions);
-        text.push_line(&row.numbers);
-        actions = row.actions;
+    for row in Walk::new(s) {
+        text.push_line(&row);
     }
 }
 
-// The lines of a readable session.
+// The lines of a readable session, at the front.
 fn print_lines(session: &[u8], out: &mut [u8]) -> usize
     requires readable { session_refusal session.now ≡ 0 }
     requires room { printed_bytes ≤ length out.old }
@@ -57,7 +50,7 @@ fn print_lines(session: &[u8], out: &mut [u8]) -> usize
         buffer: out,
         end: 0,
     };
-    push_lines(session, pass_count(session), &mut text);
+    push_lines(session, &mut text);
     text.end
 }
 

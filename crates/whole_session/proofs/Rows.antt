@@ -115,21 +115,19 @@ unfolding deskcheck
 deskcheck_count s h =
     ap length (cond_on (eqb (session_refusal s) 0) _ _ (eq-eqb (session_refusal s) 0 h)) ∙ lines_count (session s) 0 (session s).pass_count no_entries
 
--- A walk that has given some rows, x next, and others are to come.
-module _ (s : List ℕ) (read : session_refusal s ≡ 0) (done rest : List (List ℕ)) (x : List ℕ) (all : done ++ (x ∷ rest) ≡ deskcheck s) where
-  -- The row is one of a pass.
-  pub row_there : length done < (session s).pass_count
-  row_there = omega (arith, length-append done (x ∷ rest), ap length all, deskcheck_count s read)
-
-  -- It is given too.
+-- A walk of a readable session that has given some rows. x is the next, and others are to come:
+module _ (s : List ℕ) (done : List (List ℕ)) {left rest : List (List ℕ)} {x : List ℕ} (read : session_refusal s ≡ 0) (so_far : done ++ left ≡ deskcheck s) (first : left ≡ x ∷ rest) where
+  -- it is given too,
   pub row_given : (done ++ (x ∷ [])) ++ rest ≡ deskcheck s
-  row_given = append_assoc done (x ∷ []) rest ∙ all
+  row_given = append_assoc done (x ∷ []) rest ∙ sym (ap (λ l. done ++ l) first) ∙ so_far
 
--- A walk that has given all.
-pub rows_given : (s : List ℕ) (done : List (List ℕ)) → session_refusal s ≡ 0 → done ++ [] ≡ deskcheck s → (done ≡ deskcheck s) × (length done ≡ (session s).pass_count)
-rows_given s done read e =
-    let all : done ≡ deskcheck s = sym (append-nil done) ∙ e in
-    (all, ap length all ∙ deskcheck_count s read)
+  -- and is one of a pass.
+  pub row_there : length done < (session s).pass_count
+  row_there = omega (arith, length-append (done ++ (x ∷ [])) rest, length-append done (x ∷ []), ap length row_given, deskcheck_count s read)
+
+-- Nothing is to come.
+pub rows_given : (s : List ℕ) (done : List (List ℕ)) {left : List (List ℕ)} → done ++ left ≡ deskcheck s → left ≡ [] → done ≡ deskcheck s
+rows_given s done so_far none = sym (append-nil done) ∙ sym (ap (λ l. done ++ l) none) ∙ so_far
 
 -- ── in lent bytes
 

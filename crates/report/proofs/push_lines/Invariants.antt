@@ -1,17 +1,16 @@
--- The invariant: the first k lines are written, and pass k is reached.
+-- The invariant: a line of each row so far is written, and with those to come the rows are what `deskcheck` says.
 use mathlib.Core.Path.{◌≡◌}
+use mathlib.Core.List.{◌++◌}
 use Prim.Native.Nat.{◌+◌, ◌*◌, ◌≤◌}
 use lib.ListN.{length}
-use Rattle.definition.specs.Session.{session}
-use Rattle.whole_session.specs.Rows.{first_rows, Reached}
+use Rattle.definition.specs.Program.{deskcheck}
 use Rattle.report.specs.Text.{line_bytes, lines_text}
 use Rattle.report.specs.Appended.{Appended}
 use Rattle.report.proofs.push_lines.Given as goal
 
-abbrev pub invariant-loop-k : goal.invariant-loop-k
-invariant-loop-k l = record {
-  written : Appended l.initial.text (lines_text (first_rows (session l.s) l.passes l.k)) l.text;
-  reached : Reached (session l.s) l.passes l.k l.discards l.actions;
-  room : l.text.end ≤ l.initial.text.end + line_bytes * l.k;
-  discards : length l.discards ≡ length l.initial.discards;
+abbrev pub invariant-loop-row : goal.invariant-loop-row
+invariant-loop-row l = record {
+  so_far : l.yielded ++ l.row-iterator ≡ deskcheck l.s;
+  written : Appended l.initial.text (lines_text l.yielded) l.text;
+  room : l.text.end ≤ l.initial.text.end + line_bytes * length l.yielded;
 }

@@ -1,21 +1,16 @@
 -- The invariant: the rows so far stand in the bytes, and with those to come they are what `deskcheck` says.
 use mathlib.Core.Path.{◌≡◌, refl, sym, ap, ap₂, ◌∙◌}
-use mathlib.Core.List.{List, [], ◌∷◌, ◌++◌}
-use Prim.Native.Nat.{ℕ, ◌+◌}
+use mathlib.Core.List.{[], ◌∷◌, ◌++◌}
+use Prim.Native.Nat.{◌+◌}
 use native.Mathlib.Omega.{arith}
 use borrow.Author.Rules.{rules}
 use lib.ListN.{length, length-append}
 use Rattle.definition.specs.Sizes.{row_numbers}
-use Rattle.definition.specs.Program.{deskcheck}
 use Rattle.session_validation.proofs.Valid.{valid_of}
 use Rattle.whole_session.specs.Numbers.{numbers_at, put_numbers}
 use Rattle.whole_session.specs.Rows.{rows_in}
-use Rattle.whole_session.proofs.Rows.{row_there, row_given, rows_given, none_put, row_put, rest_stays}
+use Rattle.whole_session.proofs.Rows.{deskcheck_count, row_there, row_given, rows_given, none_put, row_put, rest_stays}
 use Rattle.whole_session.proofs.session_rows.Goals as goal
-
--- Of what is to come the next row is the first.
-next_of : (done left rest : List (List ℕ)) (x : List ℕ) (s : List ℕ) → done ++ left ≡ deskcheck s → left ≡ x ∷ rest → done ++ (x ∷ rest) ≡ deskcheck s
-next_of done left rest x s h e = sym (ap (λ l. done ++ l) e) ∙ h
 
 pub loop-row-init : goal.loop-row-init
 loop-row-init c = (c.into_iter-row-iterator.ensures.into_iter_gives ∙ c.new-row-items.ensures, refl, none_put _, refl, refl)
@@ -23,14 +18,14 @@ loop-row-init c = (c.into_iter-row-iterator.ensures.into_iter_gives ∙ c.new-ro
 pub write_numbers-requires : goal.write_numbers-requires
 write_numbers-requires c =
     let l = c.loop-row in
-    let nine : length c.in-Some.row ≡ 9 = search rules in
-    let there = row_there c.args.s.now c.requires.0 l.yielded _ _ (next_of l.yielded _ _ _ c.args.s.now l.invariant.0 c.in-Some.ensures.steps) in
+    let nine : length c.in-Some.row ≡ row_numbers = search rules in
+    let there = row_there c.args.s.now l.yielded c.requires.0 l.invariant.0 c.in-Some.ensures.steps in
     omega (arith, nine, there, l.invariant.1, l.invariant.4, c.requires.1, (valid_of c.args.s.now c.requires.0).passes)
 
 pub overflow_add-at : goal.overflow_add-at
 overflow_add-at c =
     let l = c.loop-row in
-    let there = row_there c.args.s.now c.requires.0 l.yielded _ _ (next_of l.yielded _ _ _ c.args.s.now l.invariant.0 c.in-Some.ensures.steps) in
+    let there = row_there c.args.s.now l.yielded c.requires.0 l.invariant.0 c.in-Some.ensures.steps in
     omega (arith, there, l.invariant.1, (valid_of c.args.s.now c.requires.0).passes)
 
 pub loop-row-preserved : goal.loop-row-preserved
@@ -39,18 +34,17 @@ loop-row-preserved c =
     let x = c.in-Some.row in
     let b = c.write_numbers.new.b in
     let nine : length x ≡ row_numbers = search rules in
-    let all = next_of l.yielded _ _ _ c.args.s.now l.invariant.0 c.in-Some.ensures.steps in
     let more : length (l.yielded ++ (x ∷ [])) ≡ length l.yielded + 1 = length-append l.yielded (x ∷ []) in
     let put = c.write_numbers.ensures.written ∙ ap₂ (λ q n. put_numbers l.rows q x n) l.invariant.1 nine in (
-      row_given c.args.s.now c.requires.0 l.yielded _ _ all,
+      row_given c.args.s.now l.yielded c.requires.0 l.invariant.0 c.in-Some.ensures.steps,
       omega (arith, l.invariant.1, more),
       ap (rows_in b) more ∙ row_put _ _ _ _ put _ l.invariant.2 (ap₂ (numbers_at b) (sym l.invariant.1) (sym nine) ∙ c.write_numbers.ensures.read_back),
-      rest_stays _ _ _ _ put _ _ (row_there c.args.s.now c.requires.0 l.yielded _ _ all) l.invariant.3,
+      rest_stays _ _ _ _ put _ _ (row_there c.args.s.now l.yielded c.requires.0 l.invariant.0 c.in-Some.ensures.steps) l.invariant.3,
       c.write_numbers.auto.b ∙ l.invariant.4,
     )
 
 pub returns-clause-written : goal.returns-clause-written
 returns-clause-written c =
     let l = c.loop-row in
-    let (all, many) = rows_given c.args.s.now l.yielded c.requires.0 (sym (ap (λ r. l.yielded ++ r) c.in-None.ensures.steps.0) ∙ l.invariant.0) in
-    ap (rows_in l.rows) (sym many) ∙ l.invariant.2 ∙ all
+    let all = rows_given c.args.s.now l.yielded l.invariant.0 c.in-None.ensures.steps.0 in
+    ap (rows_in l.rows) (sym (ap length all ∙ deskcheck_count c.args.s.now c.requires.0)) ∙ l.invariant.2 ∙ all
