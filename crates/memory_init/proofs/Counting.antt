@@ -19,7 +19,7 @@ use Rattle.laws.specs.Plans.{Plan, leaving_by, returned_by, added_by, listed_by,
 use Rattle.laws.proofs.Lists.{retain_yes, retain_no}
 use Rattle.laws.proofs.Records.{retain_read}
 use Rattle.memory_init.specs.Tally.{FoundBy}
-use Rattle.memory_init.specs.declared.tally.Found.{Found}
+use Rattle.memory_init.specs.declared.tally.Tally.{Tally}
 
 -- ── records that pass a test
 
@@ -83,7 +83,7 @@ sum_turn : {A : Type 0} {l : List A} (x rest : List A) (sum k n : ℕ) → l ≡
 sum_turn x rest sum k n e inv h = omega (arith, ap length e, length-append x rest, inv, h)
 
 -- The plan p is next, after which there are held' discards.
-module _ {ps : List Plan} {d : List Surface} {i held leaving returned added : ℕ} (g : Tallying ps d i held leaving returned added) (p : Plan) (head : drop i ps ≡ p ∷ drop (i + 1) ps) (f : Found) (found : FoundBy p.kind p.range d f)
+module _ {ps : List Plan} {d : List Surface} {i held leaving returned added : ℕ} (g : Tallying ps d i held leaving returned added) (p : Plan) (head : drop i ps ≡ p ∷ drop (i + 1) ps) (f : Tally) (found : FoundBy p.kind p.range d f)
     (held' : ℕ) (e : held' ≡ held - f.leaving + length (listed_by p)) where
   -- Every step has room where this one has and those behind it have.
   fits_turn : (leb held' max_discards && steps_fit (drop (i + 1) ps) held' d) ≡ steps_fit ps (length d) d

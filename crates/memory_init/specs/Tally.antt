@@ -8,7 +8,6 @@ use Rattle.definition.specs.declared.Range.{Range}
 use Rattle.definition.specs.declared.MemoryInitKind.{MemoryInitKind}
 use Rattle.laws.specs.Plans.{Plan, leaving_by, returned_by, added_by, leaving_all, returned_all, added_all, steps_fit}
 use Rattle.lists.specs.Lists.{count_in}
-use Rattle.memory_init.specs.declared.tally.Found.{Found}
 use Rattle.memory_init.specs.declared.tally.Tally.{Tally}
 
 -- Lent discards: all their room, and no more entries than that.
@@ -17,7 +16,7 @@ pub record DiscardsInRoom (b : List ℕ) : Type 0 where
   pub count : count_in b ≤ max_discards
 
 -- What a registration or none finds among the discards d.
-pub record FoundBy (k : Option MemoryInitKind) (r : Range) (d : List Surface) (f : Found) : Type 0 where
+pub record FoundBy (k : Option MemoryInitKind) (r : Range) (d : List Surface) (f : Tally) : Type 0 where
   pub leaving : f.leaving ≡ length (leaving_by k r d)
   pub returned : f.returned ≡ length (returned_by k r d)
   pub added : f.added ≡ length (added_by k r d)

@@ -14,15 +14,8 @@ use definition::{MemoryInitKind, Range};
 use lists::{count, surface_at};
 use ranges::hits;
 
-// What one plan finds: the discards that leave the list, those of them that are returned as clears, and the actions that it adds.
-#[derive(Clone, Copy)]
-pub struct Found {
-    pub leaving: usize,
-    pub returned: usize,
-    pub added: usize,
-}
-
-// The same of all plans of a pass, whose discards have room at every step.
+// What one plan or all plans of a pass find: the discards that leave the list, those of them that are returned as clears, and the
+// actions that they add.
 #[derive(Clone, Copy)]
 pub struct Tally {
     pub leaving: usize,
@@ -45,18 +38,18 @@ fn hits_in(discards: &[u8], range: Range) -> usize
 }
 
 // What a registration finds: the discards in its range leave, and a needing one returns them.
-fn found_by_action(discards: &[u8], range: Range, kind: MemoryInitKind) -> Found
+fn found_by_action(discards: &[u8], range: Range, kind: MemoryInitKind) -> Tally
     requires { DiscardsInRoom discards.now }
     ensures { FoundBy (some kind) range (surfaces_in discards.now) result }
 {
     let n = hits_in(discards, range);
     match kind {
-        MemoryInitKind::ImplicitlyInitialized => Found {
+        MemoryInitKind::ImplicitlyInitialized => Tally {
             leaving: n,
             returned: 0,
             added: 1,
         },
-        MemoryInitKind::NeedsInitializedMemory => Found {
+        MemoryInitKind::NeedsInitializedMemory => Tally {
             leaving: n,
             returned: n,
             added: n + 1,
@@ -65,13 +58,13 @@ fn found_by_action(discards: &[u8], range: Range, kind: MemoryInitKind) -> Found
 }
 
 // What a registration or none finds.
-fn found_by(discards: &[u8], range: Range, kind: Option<MemoryInitKind>) -> Found
+fn found_by(discards: &[u8], range: Range, kind: Option<MemoryInitKind>) -> Tally
     requires { DiscardsInRoom discards.now }
     ensures { FoundBy (init_kind kind) range (surfaces_in discards.now) result }
 {
     match kind {
         Some(k) => found_by_action(discards, range, k),
-        None => Found {
+        None => Tally {
             leaving: 0,
             returned: 0,
             added: 0,

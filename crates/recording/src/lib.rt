@@ -24,7 +24,8 @@ use ranges::{hits, only_range};
 
 // ── actions
 
-// Each of the first n discards that is in the range gives an implicit action, from place y on.
+// Each of the first n discards that is in the range gives an implicit action, from place y on. (A struct of discards and n would be named
+// with both in each clause that names the two here.)
 fn push_implicit_actions(
     discards: &[u8],
     n: usize,
@@ -118,7 +119,8 @@ fn record_actions(discards: &[u8], n: usize, actions: &mut [u8], plans: &[Planne
 
 // ── clears
 
-// The first n discards that are in the range, from place y on.
+// The first n discards that are in the range, from place y on. (The loop is that of push_implicit_actions; one over both would need a trait
+// for what is put and how long its record is, with its law, which is longer than the loop. So with return_clears and record_actions.)
 fn return_matching(discards: &[u8], n: usize, range: Range, clears: &mut [u8], y: usize) -> usize
     requires discards_inside { list_bytes surface_bytes n ≤ length discards.now }
     requires clears_inside { list_bytes surface_bytes (y + length (matching range (first_surfaces n discards.now))) ≤ length clears.old }
