@@ -6,13 +6,20 @@ use mathlib.Core.List.{List}
 use Prim.Native.Nat.{ℕ}
 use native.Mathlib.Omega.{arith}
 use lib.Dec.{eqb}
-use borrow.Author.Tests.{eq-eqb, eqb-true, eqb-false}
+use borrow.Author.Tests.{eq-eqb, ne_eqb, eqb-true, eqb-false}
 use Rattle.definition.specs.Session.{session}
 use Rattle.definition.specs.Readable.{session_refusal}
 use Rattle.definition.specs.Calls.{Call, pass, submit, State, lent_valid, called, not_lent, call}
+use Rattle.definition.specs.Refusals.{number_of}
+use Rattle.definition.specs.declared.refusals.Refusal.{Refusal}
+use Rattle.session_validation.proofs.Refusal.{refused}
 use Rattle.laws.proofs.Tests.{cond_on, cond_off}
 use Rattle.buffer_validation.specs.Buffers.{Buffers, held_in, too_short}
 use Rattle.desk.specs.Entry.{refused_call, entry, Opened, entry_refusal}
+
+-- A refusal does not pass the test for 0.
+pub refused_test : (refusal : Refusal) (n : ℕ) → number_of refusal ≡ n → eqb n 0 ≡ false
+refused_test refusal n e = ne_eqb n 0 (refused refusal n e)
 
 -- What is lent is refused as 6.
 not_lent_is : (k : Call) (σ : State) → not_lent k σ ≡ refused_call 6 k σ

@@ -1,6 +1,5 @@
 -- The root of this crate's laws.
 pub mod Calls
-pub mod Numbered
 pub mod Passed
 pub mod Sent
 pub mod Whole

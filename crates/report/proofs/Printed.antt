@@ -5,15 +5,12 @@ use mathlib.Core.List.{List}
 use mathlib.Core.Bool.{Bool, true, false, cond}
 use Prim.Native.Nat.{ℕ, ◌<◌}
 use native.Mathlib.Omega.{arith}
-use borrow.Author.Rules.{rules}
 use borrow.Author.Tests.{eq-eqb, ne_eqb}
 use lib.Dec.{eqb}
 use lib.ListN.{length}
 use Rattle.definition.specs.Sizes.{longest_session}
 use Rattle.definition.specs.Session.{total_length}
 use Rattle.definition.specs.Readable.{session_refusal}
-use Rattle.definition.specs.Refusals.{number_of}
-use Rattle.definition.specs.declared.refusals.Refusal.{Refusal}
 use Rattle.definition.specs.Program.{deskcheck}
 use Rattle.report.specs.Text.{lines_text, refusal_text}
 use Rattle.report.specs.Output.{output}
@@ -36,7 +33,3 @@ long_not_readable s h z = go (eqb (total_length s) (length s)) (sym z ∙ long_r
     go : (b : Bool) → ◌≡◌ {A = ℕ} 0 (cond b 2 1) → ⊥
     go true e = omega (arith, e)
     go false e = omega (arith, e)
-
--- No refusal has the number 0.
-pub numbered : (refusal : Refusal) → number_of refusal ≢ 0
-numbered refusal = search rules

@@ -212,16 +212,6 @@ pub fn validate_session(s: &[u8]) -> Result<(), Refusal>
     Ok(())
 }
 
-// The number of its refusal: 1 to 4, or 0 for none.
-pub fn session_refusal(s: &[u8]) -> u32
-    ensures { result ≡ Re.session_refusal s.now }
-{
-    match validate_session(s) {
-        Ok(()) => 0,
-        Err(refusal) => refusal.number(),
-    }
-}
-
 // Whether a channel's fields have such values.
 fn channel_reads(c: Channel) -> bool
     ensures { result ≡ Re.channel_reads c }

@@ -4,7 +4,7 @@ use mathlib.Core.Logic.{◌≢◌}
 use Rattle.definition.specs.Readable.{session_refusal}
 use Rattle.definition.specs.Refusals.{number_in}
 use Rattle.report.proofs.Put.{printed_as}
-use Rattle.report.proofs.Printed.{numbered}
+use Rattle.session_validation.proofs.Refusal.{numbered}
 use Rattle.column_files.proofs.Written.{readable_held, refused_held, readable_file, refused_file}
 use Rattle.column_files.proofs.write_file.Goals as goal
 

@@ -5,7 +5,7 @@ use Rattle.std.proofs.lemmas.Result.{err_from_is_err_and}
 use Rattle.buffer_validation.specs.Buffers.{buffers}
 use Rattle.desk.specs.Reply.{refused_reply}
 use Rattle.desk.proofs.Calls.{not_refused}
-use Rattle.desk.proofs.Numbered.{refused}
+use Rattle.session_validation.proofs.Refusal.{refused}
 use Rattle.desk.proofs.Passed.{passed_refused, passed_none, passed_checked, valid_checkable}
 use Rattle.desk.proofs.checked.Goals as goal
 

@@ -3,7 +3,7 @@ use mathlib.Core.Path.{sym, ◌∙◌}
 use borrow.Author.Tests.{eq-eqb}
 use Rattle.std.proofs.lemmas.Result.{err_from_is_err_and}
 use Rattle.desk.specs.Entry.{entry_refusal}
-use Rattle.desk.proofs.Numbered.{refused_test}
+use Rattle.desk.proofs.Calls.{refused_test}
 use Rattle.desk.proofs.opened.Goals as goal
 
 pub returns-then-is_short : goal.returns-then-is_short

@@ -8,7 +8,7 @@ use Rattle.laws.proofs.Surfaces.{surface_inside}
 use Rattle.session_validation.proofs.Valid.{valid_of}
 use Rattle.buffer_validation.proofs.Fits.{rows_inside}
 use Rattle.desk.specs.Index.{status_index}
-use Rattle.desk.proofs.Numbered.{refused_test}
+use Rattle.desk.proofs.Calls.{refused_test}
 use Rattle.desk.proofs.status_index.Goals as goal
 
 pub returns-in_err-validate_session : goal.returns-in_err-validate_session

@@ -5,7 +5,7 @@ use borrow.Author.Rules.{rules}
 use Rattle.std.proofs.lemmas.Result.{err_from_is_err_and}
 use Rattle.buffer_validation.proofs.Lent.{long_of}
 use Rattle.desk.proofs.Calls.{not_refused}
-use Rattle.desk.proofs.Numbered.{refused}
+use Rattle.session_validation.proofs.Refusal.{refused}
 use Rattle.desk.proofs.Sent.{sent_refused, sent_submits, sent_all}
 use Rattle.desk.proofs.submitted.Goals as goal
 

@@ -3,7 +3,8 @@
 use mathlib.Core.Path.{sym, ap, ◌∙◌}
 use Rattle.definition.specs.Refusals.{number_in}
 use Rattle.report.proofs.Put.{printed_as}
-use Rattle.report.proofs.Printed.{printed_refusal, numbered}
+use Rattle.session_validation.proofs.Refusal.{numbered}
+use Rattle.report.proofs.Printed.{printed_refusal}
 use Rattle.report.proofs.print_session.Goals as goal
 
 pub returns-in-Err : goal.returns-in-Err
