@@ -179,12 +179,12 @@ fn view_valid(s: &[u8], textures: u32, v: View) -> bool
     view_in_texture(texture_inside(s, v.texture), v)
 }
 
-// 4: whether each of the first n view rows, which lie inside, can be read. The last is read first.
+// 4: whether each of the first n view rows, which lie inside, can be read.
 fn first_views_valid(s: &[u8], textures: u32, n: u32) -> bool
     requires { (textures ≡ (session s.now).texture_count) × ViewsInside textures n s.now }
     ensures { result ≡ Re.first_views_valid (session s.now) n }
 {
-    for k in (0..n).rev() {
+    for k in 0..n {
         if !view_valid(s, textures, view_inside(s, textures, k)) {
             return false;
         }
