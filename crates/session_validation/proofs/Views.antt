@@ -1,17 +1,18 @@
 -- A view's tests: its dimension and its layers in one, and all of them as the definition has them.
 use mathlib.Core.Path.{◌≡◌, refl, sym, ap, ◌∙◌}
 use mathlib.Core.Logic.{◌≢◌}
-use mathlib.Core.Bool.{Bool, true, false, ◌&&◌, ◌||◌}
+use mathlib.Core.Bool.{Bool, true, false, ◌&&◌, ◌||◌, and-true}
 use mathlib.Core.List.{List}
-use Prim.Native.Nat.{ℕ, zero, suc, ◌+◌, ◌<◌}
+use Prim.Native.Nat.{ℕ, zero, suc, ◌+◌, ◌-◌, ◌<◌}
 use native.Mathlib.Omega.{arith}
 use lib.Dec.{leb, eqb}
 use borrow.Author.Tests.{eqb-true, ne_eqb, lt-leb}
-use Rattle.definition.specs.Session.{session, array_layers, view_at}
-use Rattle.definition.specs.Readable.{between, usage_among, dimension_fits, format_fits, view_in_texture}
+use Rattle.definition.specs.Session.{Session, session, array_layers, view_at}
+use Rattle.definition.specs.Readable.{between, usage_among, dimension_fits, format_fits, view_in_texture, view_valid, first_views_valid}
 use Rattle.definition.specs.declared.Texture.{Texture}
 use Rattle.definition.specs.declared.View.{View}
 use Rattle.laws.proofs.Tests.{and_right, and_off_right, or_on_left, or_on_right, cond_on, cond_off}
+use Rattle.laws.proofs.Folds.{views_turn}
 use Rattle.session.specs.Rows.{view_row, view_after}
 use Rattle.session.specs.Derived.{is_part}
 use Rattle.session_validation.specs.Tests.{layers_for}
@@ -20,6 +21,17 @@ use Rattle.session_validation.specs.Tests.{layers_for}
 pub view_own : (s : List ℕ) (textures k : ℕ) {v : View} → v ≡ view_after s textures k → textures ≡ (session s).texture_count → v ≡ (session s).view k
 unfolding session
 view_own s textures k e n = e ∙ ap (λ m. view_at s (view_row m k)) n
+
+-- The last of the first k view rows: the others decide the answer where it can be read, and it decides the answer where it cannot.
+module _ (S : Session) (k : ℕ) (some : 0 < k) where
+  last : first_views_valid S k ≡ (first_views_valid S (k - 1) && view_valid S (S.view (k - 1)))
+  last = let e : k ≡ k - 1 + 1 = omega arith in ap (first_views_valid S) e ∙ views_turn S (k - 1)
+
+  pub last_read : view_valid S (S.view (k - 1)) ≡ true → first_views_valid S k ≡ first_views_valid S (k - 1)
+  last_read h = last ∙ ap (λ b. first_views_valid S (k - 1) && b) h ∙ and-true (first_views_valid S (k - 1))
+
+  pub last_refused : view_valid S (S.view (k - 1)) ≡ false → first_views_valid S k ≡ false
+  last_refused h = last ∙ and_off_right (first_views_valid S (k - 1)) (view_valid S (S.view (k - 1))) h
 
 -- The layers of each dimension that goes with the texture's, and of any other.
 module _ (v : ℕ) (t : Texture) where
