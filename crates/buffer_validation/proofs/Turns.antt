@@ -55,17 +55,21 @@ module _ (S : Session) where
     pub surfaces_stop : (i n : ℕ) → i < n → surface_valid S (surface_in i b) ≡ false → surfaces_valid S (first_surfaces n b) ≡ false
     surfaces_stop = records_stop surface_bytes surface_of (surfaces_valid S) (surface_valid S) surfaces_more (drop count_bytes b)
 
-    -- Actions: the same of their ranges, before so many that are left of all.
-    pub actions_none : (n : ℕ) → actions_valid S (first_actions (n - n) b) ≡ true
+    -- Actions: the same of their ranges.
+    pub actions_go : (i : ℕ) → actions_valid S (first_actions i b) ≡ true → range_valid S (action_in i b).range ≡ true → actions_valid S (first_actions (i + 1) b) ≡ true
+    actions_go = records_go action_bytes action_of_bytes (actions_valid S) (λ x. range_valid S x.range) actions_more (drop count_bytes b)
+
+    -- The same before so many that are left of all.
+    pub actions_start : (n : ℕ) → actions_valid S (first_actions (n - n) b) ≡ true
     unfolding records
-    actions_none n =
+    actions_start n =
         let none : n - n ≡ 0 = omega arith in
         ap (λ (q : ℕ). actions_valid S (first_actions q b)) none
 
-    pub actions_go : (n left : ℕ) → 0 < left → left ≤ n → actions_valid S (first_actions (n - left) b) ≡ true → range_valid S (action_in (n - left) b).range ≡ true → actions_valid S (first_actions (n - (left - 1)) b) ≡ true
-    actions_go n left some few h e =
+    pub actions_fewer : (n left : ℕ) → 0 < left → left ≤ n → actions_valid S (first_actions (n - left) b) ≡ true → range_valid S (action_in (n - left) b).range ≡ true → actions_valid S (first_actions (n - (left - 1)) b) ≡ true
+    actions_fewer n left some few h e =
         let more : n - (left - 1) ≡ n - left + 1 = omega arith in
-        ap (λ (q : ℕ). actions_valid S (first_actions q b)) more ∙ records_go action_bytes action_of_bytes (actions_valid S) (λ x. range_valid S x.range) actions_more (drop count_bytes b) (n - left) h e
+        ap (λ (q : ℕ). actions_valid S (first_actions q b)) more ∙ actions_go (n - left) h e
 
     pub actions_stop : (i n : ℕ) → i < n → range_valid S (action_in i b).range ≡ false → actions_valid S (first_actions n b) ≡ false
     actions_stop = records_stop action_bytes action_of_bytes (actions_valid S) (λ x. range_valid S x.range) actions_more (drop count_bytes b)

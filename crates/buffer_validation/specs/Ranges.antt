@@ -1,14 +1,9 @@
--- The texture rows of a session; what number 6 asks of a surface and of a range, past the number of their texture.
-use Rattle.std.specs.Prelude.{ℕ, ◌+◌, ◌-◌, ◌≡◌, Bool, not, ◌&&◌, List, eqb, leb, ltb}
-use Rattle.definition.specs.Session.{Session, session, array_layers, slices_in}
+-- What number 6 asks of a surface and of a range, past the number of their texture.
+use Rattle.std.specs.Prelude.{◌+◌, ◌-◌, Bool, not, ◌&&◌, eqb, leb, ltb}
+use Rattle.definition.specs.Session.{Session, array_layers, slices_in}
 use Rattle.definition.specs.declared.Texture.{Texture}
 use Rattle.definition.specs.declared.Surface.{Surface}
 use Rattle.definition.specs.declared.Range.{Range}
-use Rattle.session.specs.Rows.{RowsInside}
-
--- The session has so many textures, and their rows lie inside.
-abbrev pub Textures : ℕ → List ℕ → Type 0
-Textures n s = (n ≡ (session s).texture_count) × RowsInside n s
 
 -- The range is of a texture that is not 3D.
 abbrev pub is_flat : Session → Range → Bool

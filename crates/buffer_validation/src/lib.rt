@@ -4,7 +4,7 @@
 // is read once.
 #![tactic(auto)]
 
-ghost use Rattle.std.specs.Prelude.{◌≡◌, true, false, ◌&&◌, ◌-◌, ◌≤◌, length};
+ghost use Rattle.std.specs.Prelude.{◌≡◌, true, false, ◌&&◌, ◌-◌, ◌≤◌, length, ltb, if◌then◌else◌};
 ghost use Rattle.definition.specs.Sizes.{max_surfaces, surface_bytes, action_bytes, list_bytes};
 ghost use Rattle.definition.specs.Session.{session, surface_count};
 ghost use Rattle.definition.specs.Readable.{session_refusal};
@@ -12,7 +12,7 @@ ghost use Rattle.definition.specs.Calls.{surface_valid, range_valid, surfaces_va
 ghost use Rattle.lists.specs.Lists.{count_in, surfaces_in, actions_in, first_actions};
 ghost use Rattle.lists.specs.Lent.{bytes, lists_in};
 ghost use Rattle.session.specs.Rows.{RowsInside};
-ghost use Rattle.buffer_validation.specs.Ranges.{Textures, is_flat, surface_fits, area_fits, range_fits};
+ghost use Rattle.buffer_validation.specs.Ranges.{is_flat, surface_fits, area_fits, range_fits};
 ghost use Rattle.buffer_validation.specs.Buffers.{buffers, held_in, too_short};
 
 use definition::sizes::{
@@ -26,7 +26,7 @@ use session::header::texture_count;
 use session::surfaces::{is_part, surfaces_in};
 use session::texture_inside;
 
-// ── a surface and a range
+// ── a surface and a range of a texture
 
 // The texture has the surface.
 fn surface_fits(t: Texture, x: Surface) -> bool
@@ -36,34 +36,143 @@ fn surface_fits(t: Texture, x: Surface) -> bool
 }
 
 // The texture has the mips and the layers of the range, which has some of both.
+#[tactic(auto, unfolding(session::specs::Derived::is_part))]
 fn area_fits(t: Texture, x: Range) -> bool
     ensures { result ≡ area_fits t x }
 {
-    if !is_part(x.mip, x.mips, t.mips) {
-        return false;
-    }
-    is_part(x.layer, x.layers, array_layers(t))
+    is_part(x.mip, x.mips, t.mips) && is_part(x.layer, x.layers, array_layers(t))
 }
 
 // The texture has the range, and the range is not empty. The slice is the last mip's, which is there where the mips are the texture's.
 fn range_fits(t: Texture, x: Range) -> bool
     ensures { result ≡ range_fits t x }
 {
-    if !area_fits(t, x) {
-        return false;
-    }
-    x.slice < slices_in(t, x.mip + x.mips - 1)
+    area_fits(t, x) && x.slice < slices_in(t, x.mip + x.mips - 1)
 }
 
-// The session, of so many textures, has the surface.
-fn surface_among(s: &[u8], textures: u32, x: Surface) -> bool
-    requires { Textures textures s.now }
-    ensures { result ≡ surface_valid (session s.now) x }
-{
-    if x.texture >= textures {
-        return false;
+// ── the textures of a session
+
+// A session's bytes and the number of its textures, whose rows lie inside.
+#[derive(Clone, Copy)]
+struct Textures<'a> {
+    bytes: &'a [u8],
+    count: u32,
+    ghost counted: { count ≡ (session bytes.now).texture_count },
+    ghost inside: { RowsInside count bytes.now },
+}
+
+impl<'a> Textures<'a> {
+    // Those of a session whose texture rows lie inside.
+    fn new(s: &'a [u8]) -> Self
+        requires { RowsInside (session s.now).texture_count s.now }
+        ensures { result.bytes.now ≡ s.now }
+    {
+        Textures {
+            bytes: s,
+            count: texture_count(s),
+        }
     }
-    surface_fits(texture_inside(s, x.texture), x)
+
+    // A texture, where there is one of that number.
+    fn get(&self, k: u32) -> Option<Texture>
+        ensures { let S = session self.now.bytes.now in
+            result ≡ (if ltb k S.texture_count then Some (S.texture k) else None) }
+    {
+        if k < self.count {
+            Some(texture_inside(self.bytes, k))
+        } else {
+            None
+        }
+    }
+
+    // The session has the surface.
+    fn has(&self, x: Surface) -> bool
+        ensures { result ≡ surface_valid (session self.now.bytes.now) x }
+    {
+        match self.get(x.texture) {
+            Some(t) => surface_fits(t, x),
+            None => false,
+        }
+    }
+
+    // The session has the range, and the range is not empty.
+    fn has_range(&self, x: Range) -> bool
+        ensures { result ≡ range_valid (session self.now.bytes.now) x }
+    {
+        match self.get(x.texture) {
+            Some(t) => range_fits(t, x),
+            None => false,
+        }
+    }
+
+    // The same, and the range is of a texture that is not 3D.
+    fn has_flat(&self, x: Range) -> bool
+        ensures { let S = session self.now.bytes.now in
+            result ≡ (is_flat S x && range_valid S x) }
+    {
+        match self.get(x.texture) {
+            Some(t) => t.dimension != TEXTURE_D3 && range_fits(t, x),
+            None => false,
+        }
+    }
+
+    // The session has every surface of a lent list, whose records lie inside.
+    fn surfaces_valid(&self, b: &[u8]) -> bool
+        requires { list_bytes surface_bytes (count_in b.now) ≤ length b.now }
+        ensures { result ≡ surfaces_valid (session self.now.bytes.now) (surfaces_in b.now) }
+    {
+        for i in 0..count(b) {
+            if !self.has(surface_at(b, i)) {
+                return false;
+            }
+        }
+        true
+    }
+
+    // How many actions of a lent list are left, from the first on that is out of range or of a 3D texture. Those before it, most often all, are
+    // tested without the slices of a mip. It counts down: a `for` over the actions took an instruction more for each, 3 in 100 of a pass with 490.
+    fn actions_left(&self, b: &[u8]) -> usize
+        requires { list_bytes action_bytes (count_in b.now) ≤ length b.now }
+        ensures within { result ≤ count_in b.now }
+        ensures valid { actions_valid (session self.now.bytes.now) (first_actions (count_in b.now - result) b.now) ≡ true }
+    {
+        let n = count(b);
+        let mut left = n;
+        while left > 0 {
+            if !self.has_flat(range_at(b, n - left)) {
+                return left;
+            }
+            left -= 1;
+        }
+        left
+    }
+
+    // The session has the range of every action of a lent list, whose records lie inside.
+    fn actions_valid(&self, b: &[u8]) -> bool
+        requires { list_bytes action_bytes (count_in b.now) ≤ length b.now }
+        ensures { result ≡ actions_valid (session self.now.bytes.now) (actions_in b.now) }
+    {
+        let n = count(b);
+        for i in n - self.actions_left(b)..n {
+            if !self.has_range(range_at(b, i)) {
+                return false;
+            }
+        }
+        true
+    }
+
+    // How many surfaces the session has, where they are no more than it may have. The count of crate session tests every row and stops past the
+    // most: of one texture it takes half as many instructions as all of `is_valid`.
+    fn surface_count(&self) -> usize
+        requires { surface_count (session self.now.bytes.now) ≤ max_surfaces }
+        ensures { result ≡ surface_count (session self.now.bytes.now) }
+    {
+        let mut sum = 0;
+        for k in 0..self.count {
+            sum += surfaces_in(texture_inside(self.bytes, k));
+        }
+        sum as usize
+    }
 }
 
 // The session, whose texture rows lie inside, has the surface.
@@ -71,89 +180,10 @@ pub fn surface_valid(s: &[u8], x: Surface) -> bool
     requires { RowsInside (session s.now).texture_count s.now }
     ensures { result ≡ surface_valid (session s.now) x }
 {
-    surface_among(s, texture_count(s), x)
+    Textures::new(s).has(x)
 }
 
-// The session, of so many textures, has the range, and the range is not empty.
-fn range_among(s: &[u8], textures: u32, x: Range) -> bool
-    requires { Textures textures s.now }
-    ensures { result ≡ range_valid (session s.now) x }
-{
-    if x.texture >= textures {
-        return false;
-    }
-    range_fits(texture_inside(s, x.texture), x)
-}
-
-// The same, and the range is of a texture that is not 3D.
-fn flat_among(s: &[u8], textures: u32, x: Range) -> bool
-    requires { Textures textures s.now }
-    ensures { result ≡ (is_flat (session s.now) x && range_valid (session s.now) x) }
-{
-    if x.texture >= textures {
-        return false;
-    }
-    let t = texture_inside(s, x.texture);
-    if t.dimension == TEXTURE_D3 {
-        return false;
-    }
-    range_fits(t, x)
-}
-
-// ── lists and bytes
-
-// The session has every surface of a lent list, whose records lie inside.
-fn surfaces_valid(s: &[u8], textures: u32, b: &[u8]) -> bool
-    requires textures { Textures textures s.now }
-    requires b_in_bounds { list_bytes surface_bytes (count_in b.now) ≤ length b.now }
-    ensures { result ≡ surfaces_valid (session s.now) (surfaces_in b.now) }
-{
-    let n = count(b);
-    let mut i: usize = 0;
-    while i < n {
-        if !surface_among(s, textures, surface_at(b, i)) {
-            return false;
-        }
-        i += 1;
-    }
-    true
-}
-
-// How many actions of a lent list are left, from the first on that is out of range or of a 3D texture. Those before it, most often all, are
-// tested without the slices of a mip.
-fn actions_left(s: &[u8], textures: u32, b: &[u8]) -> usize
-    requires textures { Textures textures s.now }
-    requires b_in_bounds { list_bytes action_bytes (count_in b.now) ≤ length b.now }
-    ensures { (result ≤ count_in b.now)
-        × (actions_valid (session s.now) (first_actions (count_in b.now - result) b.now) ≡ true) }
-{
-    let n = count(b);
-    let mut left = n;
-    while left > 0 {
-        if !flat_among(s, textures, range_at(b, n - left)) {
-            return left;
-        }
-        left -= 1;
-    }
-    left
-}
-
-// The session has the range of every action of a lent list, whose records lie inside.
-fn actions_valid(s: &[u8], textures: u32, b: &[u8]) -> bool
-    requires textures { Textures textures s.now }
-    requires b_in_bounds { list_bytes action_bytes (count_in b.now) ≤ length b.now }
-    ensures { result ≡ actions_valid (session s.now) (actions_in b.now) }
-{
-    let n = count(b);
-    let mut left = actions_left(s, textures, b);
-    while left > 0 {
-        if !range_among(s, textures, range_at(b, n - left)) {
-            return false;
-        }
-        left -= 1;
-    }
-    true
-}
+// ── all that is lent
 
 // The first n status bytes. Each is looked at, without a branch.
 fn bytes_valid(status: &[u8], n: usize) -> bool
@@ -161,63 +191,61 @@ fn bytes_valid(status: &[u8], n: usize) -> bool
     ensures { result ≡ bytes_valid n status.now }
 {
     let mut ok = true;
-    let mut i: usize = 0;
-    while i < n {
-        ok = ok & (status[i] <= 3);
-        i += 1;
+    for i in 0..n {
+        ok &= status[i] <= 3;
     }
     ok
 }
 
-// The counts are within the room of the lists.
-fn counts_valid(discards: &[u8], actions: &[u8], clears: &[u8]) -> bool
-    ensures { result ≡ counts_valid (lists_in (bytes discards.now actions.now clears.now)) }
-{
-    (count(discards) <= MAX_DISCARDS)
-        & (count(actions) <= MAX_ACTIONS)
-        & (count(clears) <= MAX_CLEARS)
+// The buffers that a caller lends: three lists, and a byte for each surface.
+#[derive(Clone, Copy)]
+pub struct LentBuffers<'a> {
+    pub discards: &'a [u8],
+    pub actions: &'a [u8],
+    pub clears: &'a [u8],
+    pub status: &'a [u8],
 }
 
-// How many surfaces a session has that is not refused.
-fn surface_count(s: &[u8], textures: u32) -> usize
-    requires { Textures textures s.now × (surface_count (session s.now) ≤ max_surfaces) }
-    ensures { result ≡ surface_count (session s.now) }
-{
-    let mut sum = 0u64;
-    let mut k = 0u32;
-    while k < textures {
-        sum += surfaces_in(texture_inside(s, k));
-        k += 1;
+impl LentBuffers<'_> {
+    // One of them is too short.
+    #[tactic(auto, unfolding(crate::specs::Buffers::too_short))]
+    pub fn is_short(&self) -> bool
+        ensures { let l = self.now in
+            result ≡ too_short (buffers l.discards.now l.actions.now l.clears.now l.status.now) }
+    {
+        (self.discards.len() < DISCARDS_BYTES)
+            | (self.actions.len() < ACTIONS_BYTES)
+            | (self.clears.len() < CLEARS_BYTES)
+            | (self.status.len() < MAX_SURFACES)
     }
-    sum as usize
-}
 
-// ── all that is lent
-
-// A lent buffer is too short.
-pub fn is_short(discards: &[u8], actions: &[u8], clears: &[u8], status: &[u8]) -> bool
-    ensures { result ≡ too_short (buffers discards.now actions.now clears.now status.now) }
-{
-    (discards.len() < DISCARDS_BYTES)
-        | (actions.len() < ACTIONS_BYTES)
-        | (clears.len() < CLEARS_BYTES)
-        | (status.len() < MAX_SURFACES)
-}
-
-// All that is lent for a session that is not refused, in buffers that are long enough. Records are looked at where the counts are within
-// the room.
-pub fn lent_valid(s: &[u8], discards: &[u8], actions: &[u8], clears: &[u8], status: &[u8]) -> bool
-    requires status_value { too_short (buffers discards.now actions.now clears.now status.now) ≡ false }
-    requires s_value { session_refusal s.now ≡ 0 }
-    ensures { let b = buffers discards.now actions.now clears.now status.now in
-        result ≡ lent_valid (session s.now) (held_in b) }
-{
-    if !counts_valid(discards, actions, clears) {
-        return false;
+    // The counts are within the room of the lists.
+    fn counts_valid(&self) -> bool
+        ensures { let l = self.now in
+            result ≡ counts_valid (lists_in (bytes l.discards.now l.actions.now l.clears.now)) }
+    {
+        (count(self.discards) <= MAX_DISCARDS)
+            & (count(self.actions) <= MAX_ACTIONS)
+            & (count(self.clears) <= MAX_CLEARS)
     }
-    let textures = texture_count(s);
-    surfaces_valid(s, textures, discards)
-        & actions_valid(s, textures, actions)
-        & surfaces_valid(s, textures, clears)
-        & bytes_valid(status, surface_count(s, textures))
+
+    // They are valid for a session that is not refused, and long enough. Records are looked at where the counts are within the room. In line,
+    // the four slices need not go through memory.
+    #[inline(always)]
+    pub fn is_valid(&self, s: &[u8]) -> bool
+        requires long { let l = self.now in
+            too_short (buffers l.discards.now l.actions.now l.clears.now l.status.now) ≡ false }
+        requires accepted { session_refusal s.now ≡ 0 }
+        ensures { let l = self.now in
+            result ≡ lent_valid (session s.now) (held_in (buffers l.discards.now l.actions.now l.clears.now l.status.now)) }
+    {
+        if !self.counts_valid() {
+            return false;
+        }
+        let textures = Textures::new(s);
+        textures.surfaces_valid(self.discards)
+            & textures.actions_valid(self.actions)
+            & textures.surfaces_valid(self.clears)
+            & bytes_valid(self.status, textures.surface_count())
+    }
 }

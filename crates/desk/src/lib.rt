@@ -17,7 +17,7 @@ ghost use Rattle.desk.specs.Promise.{PassPromise, SubmitPromise};
 ghost use Rattle.desk.specs.Whole.{WholePromise};
 ghost use Rattle.desk.specs.Index.{index_in, status_index};
 
-use buffer_validation::{is_short, lent_valid, surface_valid};
+use buffer_validation::{LentBuffers, surface_valid};
 use definition::Surface;
 use definition::refusals::Refusal;
 use definition::sizes::ROWS_BYTES;
@@ -95,11 +95,17 @@ fn opened(
     ensures { let b = buffers discards.now actions.now clears.now status.now in
         number_in result ≡ entry_refusal session.now b }
 {
-    if is_short(discards, actions, clears, status) {
+    let lent = LentBuffers {
+        discards,
+        actions,
+        clears,
+        status,
+    };
+    if lent.is_short() {
         return Err(Refusal::InvalidLent);
     }
     validate_session(session)?;
-    if !lent_valid(session, discards, actions, clears, status) {
+    if !lent.is_valid(session) {
         return Err(Refusal::InvalidLent);
     }
     Ok(())

@@ -6,10 +6,11 @@ use mathlib.Core.Logic.{◌≢◌}
 use Prim.Native.Nat.{ℕ, zero, suc, ◌+◌, ◌*◌, ◌/◌, ◌%◌, ◌^◌, ◌≤◌, ◌<◌}
 use native.Mathlib.Omega.{arith}
 use lib.Dec.{eqb}
-use lib.ListN.{length, get_or, length-set}
-use lib.Seq.{get_or-set_same, get_or-set_other}
+use lib.ListN.{length, get_or, set, length-set}
+use lib.Seq.{sets, get_or-set_same, get_or-set_other}
 use native.Mathlib.Nat.{div-div-eq-div-mul, div-one, mod-eq_of_lt, not-suc-le-zero}
 use native.Mathlib.Numerals.{unary_clauses}
+use Rattle.std.specs.Int.{w32, to_le_bytes}
 use borrow.Author.Tests.{le-leb, lt-leb, eqb-true, eqb-false}
 use Rattle.definition.specs.Bytes.{u32_at}
 use Rattle.encoding.proofs.Reading.{four}
@@ -33,6 +34,26 @@ put_inside k s at n h = simp (le-leb (at + k) (length s) h)
 pub put_nowhere : (k : ℕ) (s : List ℕ) (at n : ℕ) → length s < at + k → s ≡ put_number k s at n
 unfolding put_number
 put_nowhere k s at n h = simp (lt-leb (at + k) (length s) h)
+
+-- Four stores in a row are those of the number's bytes.
+pub four_stores : (bs s : List ℕ) (at n : ℕ) → bs ≡ to_le_bytes w32 n
+    → set (set (set (set s at (get_or bs 0 0)) (at + 1) (get_or bs 1 0)) (at + 2) (get_or bs 2 0)) (at + 3) (get_or bs 3 0) ≡ sets s at (to_le_bytes w32 n)
+four_stores bs s at n e =
+    let e₁ : at + 1 ≡ suc at = omega arith in
+    let e₂ : at + 2 ≡ suc (suc at) = omega arith in
+    let e₃ : at + 3 ≡ suc (suc (suc at)) = omega arith in
+    λ q. set (set (set (set s at (get_or (e q) 0 0)) (e₁ q) (get_or (e q) 1 0)) (e₂ q) (get_or (e q) 2 0)) (e₃ q) (get_or (e q) 3 0)
+
+-- The four bytes of a u32, stored one after the other, write it.
+pub put_four : (s : List ℕ) (at n : ℕ) → at + 4 ≤ length s → sets s at (to_le_bytes w32 n) ≡ put_number 4 s at n
+unfolding put_bytes
+put_four s at n h =
+    let e₀ : at ≡ at + 0 = omega arith in
+    let e₁ : suc at ≡ at + 1 = omega arith in
+    let e₂ : suc (suc at) ≡ at + 2 = omega arith in
+    let e₃ : suc (suc (suc at)) ≡ at + 3 = omega arith in
+    let e : n ≡ n / 1 = sym (div-one n) in
+    (λ q. set (set (set (set s (e₀ q) (e q % 256)) (e₁ q) (n / 256 % 256)) (e₂ q) (n / 65536 % 256)) (e₃ q) (n / 16777216 % 256)) ∙ put_inside 4 s at n h
 
 -- Byte j of what is written is byte j of the number.
 pub put_byte : (s : List ℕ) (at n k j : ℕ) → at + k ≤ length s → j < k → get_or (put_bytes s at n k) (at + j) 0 ≡ n / 256 ^ j % 256

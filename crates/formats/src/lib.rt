@@ -2,17 +2,18 @@
 // no format has no aspect and costs nothing, and a mip past the last has size 1.
 #![tactic(auto)]
 
-ghost use Rattle.std.specs.Prelude.{◌≡◌, ◌+◌, ◌/◌, ◌^◌, ◌%◌, ◌≤◌, ◌<◌};
+ghost use Rattle.std.specs.Prelude.{◌≡◌, ◌+◌, ◌≤◌};
 ghost use Rattle.definition.specs.Formats as Fo;
-ghost use Rattle.definition.specs.Formats.{is_color, is_depth_stencil, is_format, has_depth, has_stencil, remove_srgb_suffix, target_cost, round_up, with_color, mip_size};
+ghost use Rattle.definition.specs.Formats.{is_color, is_depth_stencil, is_format, has_depth, has_stencil, remove_srgb_suffix, target_cost, with_color, mip_size};
 
 use definition::{Aspects, TargetCost};
 
 // W3C "Plain color formats": 1 r8unorm to 14 rg11b10ufloat.
+#[tactic(auto, unfolding(definition::specs::Formats::is_color))]
 pub fn is_color(format: u32) -> bool
     ensures { result ≡ is_color format }
 {
-    (1 <= format) & (format <= 14)
+    matches!(format, 1..=14)
 }
 
 // The depth and the stencil aspect of a format, in the order of W3C's table of depth-stencil formats.
@@ -74,6 +75,7 @@ pub fn is_depth_stencil(format: u32) -> bool
 }
 
 // Whether the number is a format's.
+#[tactic(auto, unfolding(definition::specs::Formats::is_format))]
 pub fn is_format(format: u32) -> bool
     ensures { result ≡ is_format format }
 {
@@ -161,37 +163,17 @@ fn target_cost(format: u32) -> TargetCost
     }
 }
 
-// The least multiple of k that is n or more. In u64 there is room for it.
-fn round_up(k: u32, n: u32) -> u64
-    requires { 1 ≤ k }
-    ensures { (result ≡ round_up k n) × (result < n + k) }
-{
-    let wide = k as u64;
-    (n as u64 + wide - 1) / wide * wide
-}
-
 // The bytes of a sample with a colour of the format more: at most 3 to round up, and 16.
 pub fn with_color(bytes: u32, format: u32) -> u64
     ensures { (result ≡ with_color bytes format) × (result ≤ bytes + 19) }
 {
     let t = target_cost(format);
-    round_up(t.alignment, bytes) + t.cost as u64
-}
-
-// The size divided by 2 to the mip, rounded down. Of a mip the low 5 bits count: a u32 has no more.
-fn quotient(size: u32, mip: u32) -> u32
-    ensures { result ≡ size / 2 ^ (mip % 32) }
-{
-    size >> (mip % 32)
+    (bytes as u64).next_multiple_of(t.alignment as u64) + t.cost as u64
 }
 
 // W3C "logical miplevel-specific texture extent": size divided by 2 to the mip, rounded down, at least 1.
 pub fn mip_size(size: u32, mip: u32) -> u32
     ensures { result ≡ mip_size size mip }
 {
-    if mip >= 32 {
-        return 1;
-    }
-    let n = quotient(size, mip);
-    if n < 1 { 1 } else { n }
+    size.unbounded_shr(mip).max(1)
 }

@@ -1,6 +1,6 @@
 -- Numbers and records in bytes: what is written is read back, and stands in the list as a record.
-use Prim.Native.Nat.{ℕ, suc, ◌+◌, ◌*◌, ◌/◌, ◌%◌, ◌≤◌, ◌<◌}
-use native.Mathlib.Nat.{add-zero, mod-eq_of_lt}
+use Prim.Native.Nat.{ℕ, suc, ◌+◌, ◌*◌, ◌/◌, ◌%◌, ◌^◌, ◌≤◌, ◌<◌}
+use native.Mathlib.Nat.{add-zero}
 use native.Mathlib.Omega.{arith}
 use mathlib.Core.Path.{◌≡◌, refl, sym, ap, ◌∙◌}
 use mathlib.Core.List.{List, [], ◌∷◌, ◌++◌}
@@ -17,7 +17,7 @@ use Rattle.laws.specs.Plans.{action_of}
 use Rattle.laws.specs.Records.{record_at, Written}
 use Rattle.laws.proofs.Records.{number_at, written}
 use Rattle.encoding.proofs.Reading.{four}
-use Rattle.encoding.proofs.Writing.{shifted}
+use Rattle.std.proofs.lemmas.Nat.{from_le_bytes-to_le_bytes_4}
 use Rattle.lists.specs.Lists.{bytes_of, surface_of, bytes_of_surface, kind_of, number_of, layers_by, action_of_bytes, bytes_of_action, surface_in, action_in, CountSet}
 
 -- ── stores one after the other
@@ -40,26 +40,13 @@ next a v b b₁ b₂ at p e h f = f ∙ ap (λ q. sets q p v) e ∙ ap (λ (q : 
 
 -- ── numbers
 
--- Four stores in a row are the number's bytes.
-pub four_stores : (l : List ℕ) (i n : ℕ) → set (set (set (set l i (n % 256)) (i + 1) (n / 256 % 256)) (i + 2) (n / 65536 % 256)) (i + 3) (n / 16777216 % 256) ≡ sets l i (bytes_of n)
-unfolding bytes_of
-four_stores l i n =
-    let e₁ : i + 1 ≡ suc i = omega arith in
-    let e₂ : i + 2 ≡ suc (suc i) = omega arith in
-    let e₃ : i + 3 ≡ suc (suc (suc i)) = omega arith in
-    λ q. set (set (set (set l i (n % 256)) (e₁ q) (n / 256 % 256)) (e₂ q) (n / 65536 % 256)) (e₃ q) (n / 16777216 % 256)
-
--- Four digits at base 256 make a number below 256 ^ 4.
-split : (n a b c : ℕ) → n / 256 ≡ a → a / 256 ≡ b → b / 256 ≡ c → c < 256 → n % 256 + 256 * (a % 256) + 65536 * (b % 256) + 16777216 * (c % 256) ≡ n
-split n a b c ea eb ec h = ap (λ q. n % 256 + 256 * (a % 256) + 65536 * (b % 256) + 16777216 * q) (mod-eq_of_lt h) ∙ omega arith
-
 -- The bytes of a u32 are read as the number.
 digits : (n : ℕ) → n < 4294967296 → n % 256 + 256 * (n / 256 % 256) + 65536 * (n / 65536 % 256) + 16777216 * (n / 16777216 % 256) ≡ n
-digits n h = split n (n / 256) (n / 65536) (n / 16777216) refl (shifted 256 n 1) (shifted 256 n 2) (omega arith)
+digits n h = omega (arith, from_le_bytes-to_le_bytes_4 n h)
 
 -- A count that is written at the front.
 pub counted : (b b' : List ℕ) (n : ℕ) → count_bytes ≤ length b → n < 4294967296 → b' ≡ sets b 0 (bytes_of n) → CountSet n b b'
-unfolding u32_at bytes_of
+unfolding u32_at
 counted b b' n h l e =
     let parts : b' ≡ bytes_of n ++ drop count_bytes b = e ∙ sets-eq (bytes_of n) b 0 (omega arith) in
     record { count = ap (λ q. u32_at q 0) parts ∙ digits n l; behind = ap (drop count_bytes) parts }
@@ -81,7 +68,7 @@ number_in k i j at b h e =
 
 -- b' is b with the number x at a place, and x is a u32.
 abbrev Put : List ℕ → ℕ → ℕ → List ℕ → Type 0
-Put b at x b' = record { b_after : b' ≡ sets b at (bytes_of x); n_bound : x < 4294967296 }
+Put b at x b' = record { written : b' ≡ sets b at (bytes_of x); u32 : x < 2 ^ 32 }
 
 -- The bytes of a record write it.
 stored : {A : Type 0} (k : ℕ) (decode : List ℕ → A) (i : ℕ) (vs b b' : List ℕ) (s : A) → length vs ≡ k → list_bytes k (i + 1) ≤ length b → decode vs ≡ s → b' ≡ sets b (list_bytes k i) vs
@@ -104,23 +91,22 @@ surface_read b i =
 
 -- A surface is read back from its bytes.
 surface_decoded : (s : Surface) → s.texture < 4294967296 → s.mip < 4294967296 → s.layer < 4294967296 → s.slice < 4294967296 → surface_of (bytes_of_surface s) ≡ s
-unfolding surface_of u32_at bytes_of
+unfolding surface_of u32_at
 surface_decoded s t m l z = λ q. surface_at (digits s.texture t q) (digits s.mip m q) (digits s.layer l q) (digits s.slice z q)
 
 -- Its four numbers one after the other write it.
 pub surface_stored : (b b₁ b₂ b₃ b₄ : List ℕ) (i : ℕ) (s : Surface) → let at = list_bytes surface_bytes i in list_bytes surface_bytes (i + 1) ≤ length b
     → Put b at s.texture b₁ → Put b₁ (at + 4) s.mip b₂ → Put b₂ (at + 8) s.layer b₃ → Put b₃ (at + 12) s.slice b₄
     → Written surface_bytes surface_of i s (drop count_bytes b) (drop count_bytes b₄)
-unfolding bytes_of
 surface_stored b b₁ b₂ b₃ b₄ i s room t m l z =
     let at = list_bytes surface_bytes i in
     let a₁ = bytes_of s.texture in
     let a₂ = a₁ ++ bytes_of s.mip in
     let a₃ = a₂ ++ bytes_of s.layer in
-    let e₂ = next a₁ (bytes_of s.mip) b b₁ b₂ at (at + 4) t.b_after refl m.b_after in
-    let e₃ = next a₂ (bytes_of s.layer) b b₂ b₃ at (at + 8) e₂ refl l.b_after in
-    let e₄ = next a₃ (bytes_of s.slice) b b₃ b₄ at (at + 12) e₃ refl z.b_after in
-    stored surface_bytes surface_of i (bytes_of_surface s) b b₄ s refl room (surface_decoded s t.n_bound m.n_bound l.n_bound z.n_bound) e₄
+    let e₂ = next a₁ (bytes_of s.mip) b b₁ b₂ at (at + 4) t.written refl m.written in
+    let e₃ = next a₂ (bytes_of s.layer) b b₂ b₃ at (at + 8) e₂ refl l.written in
+    let e₄ = next a₃ (bytes_of s.slice) b b₃ b₄ at (at + 12) e₃ refl z.written in
+    stored surface_bytes surface_of i (bytes_of_surface s) b b₄ s refl room (surface_decoded s t.u32 m.u32 l.u32 z.u32) e₄
 
 -- ── actions
 
@@ -143,7 +129,7 @@ action_read b i =
 -- An action is read back from its bytes: a kind's number is 0 or 1, so that the layers are kept.
 action_decoded : (r : Range) (k : MemoryInitKind) → r.texture < 4294967296 → r.mip < 4294967296 → r.mips < 4294967296 → r.layer < 4294967296 → r.layers < 4294967296 → r.slice < 4294967296
     → action_of_bytes (bytes_of_action r k) ≡ action_of r k
-unfolding action_of_bytes u32_at bytes_of
+unfolding action_of_bytes u32_at
 action_decoded r ImplicitlyInitialized t m n l o z =
     λ q. action_of (range_at (digits r.texture t q) (digits r.mip m q) (digits r.mips n q) (digits r.layer l q) (digits r.layers o q) (digits r.slice z q)) ImplicitlyInitialized
 action_decoded r NeedsInitializedMemory t m n l o z =
@@ -154,7 +140,6 @@ pub action_stored : (b b₁ b₂ b₃ b₄ b₅ b₆ b₇ : List ℕ) (i n : ℕ
     → Put b at r.texture b₁ → Put b₁ (at + 4) r.mip b₂ → Put b₂ (at + 8) r.mips b₃ → Put b₃ (at + 12) r.layer b₄
     → Put b₄ (at + 16) r.layers b₅ → Put b₅ (at + 20) n b₆ → Put b₆ (at + 24) r.slice b₇
     → Written action_bytes action_of_bytes i (action_of r k) (drop count_bytes b) (drop count_bytes b₇)
-unfolding bytes_of
 action_stored b b₁ b₂ b₃ b₄ b₅ b₆ b₇ i n r k room e t m c l o d z =
     let at = list_bytes action_bytes i in
     let a₁ = bytes_of r.texture in
@@ -163,10 +148,10 @@ action_stored b b₁ b₂ b₃ b₄ b₅ b₆ b₇ i n r k room e t m c l o d z 
     let a₄ = a₃ ++ bytes_of r.layer in
     let a₅ = a₄ ++ bytes_of r.layers in
     let a₆ = a₅ ++ bytes_of (number_of k) in
-    let e₂ = next a₁ (bytes_of r.mip) b b₁ b₂ at (at + 4) t.b_after refl m.b_after in
-    let e₃ = next a₂ (bytes_of r.mips) b b₂ b₃ at (at + 8) e₂ refl c.b_after in
-    let e₄ = next a₃ (bytes_of r.layer) b b₃ b₄ at (at + 12) e₃ refl l.b_after in
-    let e₅ = next a₄ (bytes_of r.layers) b b₄ b₅ at (at + 16) e₄ refl o.b_after in
-    let e₆ = next a₅ (bytes_of (number_of k)) b b₅ b₆ at (at + 20) e₅ refl (d.b_after ∙ ap (λ q. sets b₅ (at + 20) (bytes_of q)) e) in
-    let e₇ = next a₆ (bytes_of r.slice) b b₆ b₇ at (at + 24) e₆ refl z.b_after in
-    stored action_bytes action_of_bytes i (bytes_of_action r k) b b₇ (action_of r k) refl room (action_decoded r k t.n_bound m.n_bound c.n_bound l.n_bound o.n_bound z.n_bound) e₇
+    let e₂ = next a₁ (bytes_of r.mip) b b₁ b₂ at (at + 4) t.written refl m.written in
+    let e₃ = next a₂ (bytes_of r.mips) b b₂ b₃ at (at + 8) e₂ refl c.written in
+    let e₄ = next a₃ (bytes_of r.layer) b b₃ b₄ at (at + 12) e₃ refl l.written in
+    let e₅ = next a₄ (bytes_of r.layers) b b₄ b₅ at (at + 16) e₄ refl o.written in
+    let e₆ = next a₅ (bytes_of (number_of k)) b b₅ b₆ at (at + 20) e₅ refl (d.written ∙ ap (λ q. sets b₅ (at + 20) (bytes_of q)) e) in
+    let e₇ = next a₆ (bytes_of r.slice) b b₆ b₇ at (at + 24) e₆ refl z.written in
+    stored action_bytes action_of_bytes i (bytes_of_action r k) b b₇ (action_of r k) refl room (action_decoded r k t.u32 m.u32 c.u32 l.u32 o.u32 z.u32) e₇

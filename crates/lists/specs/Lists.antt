@@ -1,5 +1,6 @@
 -- A lent list in bytes: a count, and then records of k bytes, all numbers little-endian u32.
-use Rattle.std.specs.Prelude.{ℕ, zero, suc, ◌/◌, ◌%◌, ◌≤◌, ◌<◌, ◌≡◌, cond, List, [], ◌∷◌, ◌++◌, leb, length, drop}
+use Rattle.std.specs.Prelude.{ℕ, zero, suc, ◌≤◌, ◌<◌, ◌≡◌, cond, List, ◌++◌, leb, length, drop}
+use Rattle.std.specs.Int.{w32, to_le_bytes}
 use Rattle.definition.specs.Sizes.{surface_bytes, action_bytes, count_bytes, list_bytes}
 use Rattle.definition.specs.Bytes.{u32_at}
 use Rattle.definition.specs.Surfaces.{surface_at, range_at}
@@ -14,8 +15,8 @@ use Rattle.laws.specs.Records.{record_at, records}
 -- ── records
 
 -- The four bytes of a number.
-unfoldable pub bytes_of : ℕ → List ℕ
-bytes_of n = n % 256 ∷ n / 256 % 256 ∷ n / 65536 % 256 ∷ n / 16777216 % 256 ∷ []
+abbrev pub bytes_of : ℕ → List ℕ
+bytes_of n = to_le_bytes w32 n
 
 -- A surface (texture, mip, layer, slice), and its bytes.
 unfoldable pub surface_of : List ℕ → Surface

@@ -1,30 +1,18 @@
 // Lists that a caller lends as bytes: a count, and then records, all numbers little-endian u32. Records are read and written where they
 // stand; the contracts speak of the records, so that the lists are lists of them. What is read or written lies inside, which the caller knows.
+// Surfaces and actions have functions of their own: their fields differ, and a trait over both would hold the same lines in its impls.
 #![tactic(auto)]
 
 ghost use Rattle.std.specs.Prelude.{◌≡◌, ◌+◌, ◌≤◌, ◌<◌, length, drop};
-ghost use Rattle.std.proofs.lemmas.List.Edits.{sets};
 ghost use Rattle.definition.specs.Sizes.{surface_bytes, action_bytes, count_bytes, list_bytes};
 ghost use Rattle.laws.specs.Plans.{action_of};
 ghost use Rattle.laws.specs.Records.{Written};
 ghost use Rattle.lists.specs.Lists as L;
-ghost use Rattle.lists.specs.Lists.{bytes_of, surface_of, action_of_bytes, count_in, surface_in, action_in, number_of, layers_by, CountSet};
+ghost use Rattle.lists.specs.Lists.{surface_of, action_of_bytes, count_in, surface_in, action_in, layers_by, CountSet};
 
 use definition::sizes::{ACTION_BYTES, COUNT_BYTES, SURFACE_BYTES};
 use definition::{MemoryInitKind, Range, Surface};
-use encoding::{u32_at, u32_inside};
-
-// Writes a u32 that lies inside, the lowest byte first.
-fn put_u32_inside(b: &mut [u8], at: usize, n: u32)
-    requires { at + 4 ≤ length b.old }
-    ensures b_after { b.new ≡ sets b.old at (bytes_of n) }
-    ensures n_bound { n < 4294967296 }
-{
-    b[at] = (n % 256) as u8;
-    b[at + 1] = (n / 256 % 256) as u8;
-    b[at + 2] = (n / 65536 % 256) as u8;
-    b[at + 3] = (n / 16777216 % 256) as u8;
-}
+use encoding::{put_u32_inside, u32_at, u32_inside};
 
 // How many records a list has.
 pub fn count(b: &[u8]) -> usize
@@ -67,17 +55,7 @@ pub fn put_surface(b: &mut [u8], i: usize, s: Surface)
     put_u32_inside(b, at + 12, s.slice);
 }
 
-// A kind's number.
-fn number_of(kind: MemoryInitKind) -> u32
-    ensures { result ≡ number_of kind }
-{
-    match kind {
-        MemoryInitKind::ImplicitlyInitialized => 0,
-        MemoryInitKind::NeedsInitializedMemory => 1,
-    }
-}
-
-// The kind of a number.
+// The kind of a number. (A `From` for a type of the definition could stand only there.)
 fn kind_of(number: u32) -> MemoryInitKind
     ensures { result ≡ L.kind_of number }
 {
@@ -131,6 +109,6 @@ pub fn put_action(b: &mut [u8], i: usize, range: Range, kind: MemoryInitKind)
     put_u32_inside(b, at + 8, range.mips);
     put_u32_inside(b, at + 12, range.layer);
     put_u32_inside(b, at + 16, range.layers);
-    put_u32_inside(b, at + 20, number_of(kind));
+    put_u32_inside(b, at + 20, kind as u32);
     put_u32_inside(b, at + 24, range.slice);
 }

@@ -7,6 +7,7 @@ ghost use Rattle.definition.specs.Surfaces as Surfaces;
 use definition::{Range, Surface};
 
 // x is one of the `count` numbers from `first` on. The sum of two u32 fits a u64.
+#[tactic(auto, unfolding(definition::specs::Surfaces::within))]
 fn within(first: u32, count: u32, x: u32) -> bool
     ensures { result ≡ Surfaces.within first count x }
 {
@@ -14,6 +15,7 @@ fn within(first: u32, count: u32, x: u32) -> bool
 }
 
 // The range has the surface.
+#[tactic(auto, unfolding(definition::specs::Surfaces::hits))]
 pub fn hits(range: Range, s: Surface) -> bool
     ensures { result ≡ Surfaces.hits range s }
 {
@@ -30,12 +32,12 @@ pub fn layer_at(range: Range, layer: u32) -> Surface
     Surface {
         texture: range.texture,
         mip: range.mip,
-        layer: layer,
+        layer,
         slice: range.slice,
     }
 }
 
-// One surface as a range.
+// One surface as a range. (A `From` between two types of the definition could stand only there.)
 pub fn only_range(s: Surface) -> Range
     ensures { result ≡ Surfaces.only_range s }
 {

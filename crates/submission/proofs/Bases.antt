@@ -18,9 +18,9 @@ use Rattle.laws.proofs.Folds.{before_turn, before_grows}
 use Rattle.laws.proofs.Places.{place_counted}
 
 -- Entries so far, and one more.
-pub entry_further : (f : ℕ → ℕ) (bases : List ℕ) (k at v : ℕ) → ((j : ℕ) → j < k → get_or bases j 0 ≡ f j) → k < length bases → at ≡ k → v ≡ f k
-    → (j : ℕ) → j < k + 1 → get_or (set bases at v) j 0 ≡ f j
-entry_further f bases k at v old room here new j h = ap (λ (q : ℕ). get_or (set bases q v) j 0) here ∙ go (eqb j k) refl
+pub entry_further : (f : ℕ → ℕ) (bases : List ℕ) (k v : ℕ) → ((j : ℕ) → j < k → get_or bases j 0 ≡ f j) → k < length bases → v ≡ f k
+    → (j : ℕ) → j < k + 1 → get_or (set bases k v) j 0 ≡ f j
+entry_further f bases k v old room new j h = go (eqb j k) refl
   where
     go : (b : Bool) → eqb j k ≡ b → get_or (set bases k v) j 0 ≡ f j
     go true e =

@@ -2,9 +2,9 @@
 // It goes once over the bytes, once over the textures, and then over the surfaces that the actions and the discards name.
 #![tactic(auto)]
 
-ghost use Rattle.std.specs.Prelude.{◌≡◌, true, ◌+◌, ◌≤◌, ◌<◌, length};
+ghost use Rattle.std.specs.Prelude.{◌≡◌, ℕ, true, ◌+◌, ◌≤◌, ◌<◌, length, get_or};
 ghost use Rattle.definition.specs.Sizes.{max_surfaces, surface_bytes, action_bytes, list_bytes};
-ghost use Rattle.definition.specs.Session.{session, surface_count, surface_index, surfaces_of};
+ghost use Rattle.definition.specs.Session.{session, surfaces_before, surface_count, surface_index, surfaces_of};
 ghost use Rattle.definition.specs.Status as Status;
 ghost use Rattle.definition.specs.Submission.{submit_bytes};
 ghost use Rattle.definition.specs.Calls.{surfaces_valid, actions_valid};
@@ -22,80 +22,53 @@ use session::header::texture_count;
 use session::surfaces::{surface_offset, surfaces_before, surfaces_in};
 use session::texture_inside;
 
-// A number as an index.
-fn wide(x: u32) -> usize
-    ensures { result ≡ x }
-{
-    x as usize
-}
-
 // A submission begins: the byte forgets that an earlier one cleared it.
+#[tactic(auto, unfolding(definition::specs::Status::restart))]
 fn restart(b: u8) -> u8
     ensures { result ≡ Status.restart b }
 {
-    if b == 0 {
-        return 0;
+    match b {
+        0 | 2 => 0,
+        _ => 1,
     }
-    if b == 2 {
-        return 0;
-    }
-    1
 }
 
 // An action at a surface: a needing one clears and fills an empty surface, an implicit one marks it filled.
+#[tactic(auto, unfolding(definition::specs::Status::act_byte))]
 fn act_byte(kind: MemoryInitKind, b: u8) -> u8
     ensures { result ≡ Status.act_byte kind b }
 {
-    if b == 2 {
-        return 3;
-    }
-    if b != 0 {
-        return b;
-    }
-    match kind {
-        MemoryInitKind::ImplicitlyInitialized => 1,
-        MemoryInitKind::NeedsInitializedMemory => 3,
+    match b {
+        0 => match kind {
+            MemoryInitKind::ImplicitlyInitialized => 1,
+            MemoryInitKind::NeedsInitializedMemory => 3,
+        },
+        2 => 3,
+        _ => b,
     }
 }
 
 // A discard at a surface marks it empty.
+#[tactic(auto, unfolding(definition::specs::Status::empty_byte))]
 fn empty_byte(b: u8) -> u8
     ensures { result ≡ Status.empty_byte b }
 {
-    if b < 2 { 0 } else { 2 }
-}
-
-// The first n bytes begin.
-fn restart_bytes(status: &mut [u8], n: usize)
-    requires { n ≤ length status.old }
-    ensures { status.new ≡ run Status.restart 0 n status.old }
-{
-    let mut i: usize = 0;
-    while i < n {
-        status[i] = restart(status[i]);
-        i += 1;
+    match b {
+        0 | 1 => 0,
+        _ => 2,
     }
 }
 
-// An action at n bytes from a place on.
-fn act_run(status: &mut [u8], at: usize, n: usize, kind: MemoryInitKind)
-    requires { at + n ≤ length status.old }
-    ensures { status.new ≡ run (Status.act_byte kind) at n status.old }
+// A function of the byte, at n bytes from a place on.
+fn update<F: Fn(u8) -> u8>(status: &mut [u8], at: usize, n: usize, f: F)
+    requires room { at + n ≤ length status.old }
+    requires callable { F.IsAlwaysCallable f }
+    ensures { (g : ℕ → ℕ) → ((b c : ℕ) → F.post f b c → c ≡ g b) → status.new ≡ run g at n status.old }
 {
-    let mut layer: usize = 0;
-    while layer < n {
-        let j = at + layer;
-        status[j] = act_byte(kind, status[j]);
-        layer += 1;
+    for k in 0..n {
+        let i = at + k;
+        status[i] = f(status[i]);
     }
-}
-
-// How many surfaces the session has.
-fn surface_count(s: &[u8]) -> usize
-    requires { surface_count (session s.now) ≤ max_surfaces }
-    ensures { result ≡ surface_count (session s.now) }
-{
-    surfaces_before(s, texture_count(s)) as usize
 }
 
 // The number of surfaces before each texture goes to its place in `bases`; the answer is that of all surfaces.
@@ -106,98 +79,90 @@ fn texture_bases(s: &[u8], bases: &mut [usize]) -> usize
     ensures { (result ≡ surface_count (session s.now))
         × Bases s.now bases.new }
 {
-    let n = texture_count(s);
     let mut sum: usize = 0;
-    let mut k: u32 = 0;
-    while k < n {
-        let at = wide(k);
-        bases[at] = sum;
+    for k in 0..texture_count(s) {
+        bases[k as usize] = sum;
         sum += surfaces_in(texture_inside(s, k)) as usize;
-        k += 1;
     }
     sum
 }
 
-// A surface's place among the status bytes: behind the textures before its own.
-fn surface_index(s: &[u8], bases: &[usize], x: Surface) -> usize
-    requires { Bases s.now bases.now × Inside (session s.now) x }
-    ensures { result ≡ surface_index (session s.now) x }
-{
-    let at = wide(x.texture);
-    let offset = surface_offset(texture_inside(s, x.texture), x);
-    bases[at] + offset as usize
+// Where each surface of a session has its status byte: the session's bytes, whose texture rows lie inside, and the number of surfaces before
+// each texture. There are no more surfaces than a session may have.
+#[derive(Clone, Copy)]
+struct Layout<'a> {
+    bytes: &'a [u8],
+    bases: &'a [usize],
+    ghost rows: { RowsInside (session bytes.now).texture_count bytes.now },
+    ghost few: { surface_count (session bytes.now) ≤ max_surfaces },
+    ghost long: { (session bytes.now).texture_count ≤ length bases.now },
+    ghost before: { (k : ℕ) → k < (session bytes.now).texture_count → get_or bases.now k 0 ≡ surfaces_before (session bytes.now) k },
 }
 
-// An action at mip m of its range, whose layers stand side by side.
-fn act_mip(s: &[u8], bases: &[usize], status: &mut [u8], range: Range, m: u32, kind: MemoryInitKind)
-    requires { let S = session s.now in
-        Bases s.now bases.now
-        × (RangeInside S range × ((m < range.mips) × (surface_count S ≤ length status.old))) }
-    ensures { let S = session s.now in
-        status.new ≡ sweep (act_at (action_of (mip_of range m) kind)) (surfaces_of S) status.old }
-{
-    let first = Surface {
-        texture: range.texture,
-        mip: range.mip + m,
-        layer: range.layer,
-        slice: range.slice,
-    };
-    act_run(
-        status,
-        surface_index(s, bases, first),
-        wide(range.layers),
-        kind,
-    );
-}
-
-// An action: every surface of its range, mip by mip.
-fn act(s: &[u8], bases: &[usize], status: &mut [u8], range: Range, kind: MemoryInitKind)
-    requires { let S = session s.now in
-        Bases s.now bases.now × (RangeInside S range × (surface_count S ≤ length status.old)) }
-    ensures { let S = session s.now in
-        status.new ≡ sweep (act_at (action_of range kind)) (surfaces_of S) status.old }
-{
-    let mut m = 0u32;
-    while m < range.mips {
-        act_mip(s, bases, status, range, m, kind);
-        m += 1;
+impl Layout<'_> {
+    // A surface's place among the status bytes: behind the textures before its own.
+    fn index(&self, x: Surface) -> usize
+        requires { Inside (session self.now.bytes.now) x }
+        ensures { result ≡ surface_index (session self.now.bytes.now) x }
+    {
+        let offset = surface_offset(texture_inside(self.bytes, x.texture), x);
+        self.bases[x.texture as usize] + offset as usize
     }
-}
 
-// The actions of a lent list, in order.
-fn run_actions(s: &[u8], bases: &[usize], status: &mut [u8], b: &[u8])
-    requires { let S = session s.now in
-        Bases s.now bases.now
-        × ((actions_valid S (actions_in b.now) ≡ true)
-        × ((list_bytes action_bytes (count_in b.now) ≤ length b.now)
-        × (surface_count S ≤ length status.old))) }
-    ensures { let S = session s.now in
-        status.new ≡ sweep_acts (actions_in b.now) (surfaces_of S) status.old }
-{
-    let n = count(b);
-    let mut i: usize = 0;
-    while i < n {
-        act(s, bases, status, range_at(b, i), kind_at(b, i));
-        i += 1;
+    // An action at mip m of its range, whose layers stand side by side.
+    fn act_mip(&self, status: &mut [u8], range: Range, m: u32, kind: MemoryInitKind)
+        requires range { RangeInside (session self.now.bytes.now) range }
+        requires mip { m < range.mips }
+        requires status { surface_count (session self.now.bytes.now) ≤ length status.old }
+        ensures { let S = session self.now.bytes.now in
+            status.new ≡ sweep (act_at (action_of (mip_of range m) kind)) (surfaces_of S) status.old }
+    {
+        let first = self.index(Surface {
+            texture: range.texture,
+            mip: range.mip + m,
+            layer: range.layer,
+            slice: range.slice,
+        });
+        update(status, first, range.layers as usize, |b| act_byte(kind, b));
     }
-}
 
-// The discards of a lent list mark empty.
-fn run_discards(s: &[u8], bases: &[usize], status: &mut [u8], b: &[u8])
-    requires { let S = session s.now in
-        Bases s.now bases.now
-        × ((surfaces_valid S (surfaces_in b.now) ≡ true)
-        × ((list_bytes surface_bytes (count_in b.now) ≤ length b.now)
-        × (surface_count S ≤ length status.old))) }
-    ensures { let S = session s.now in
-        status.new ≡ sweep (empty_at (surfaces_in b.now)) (surfaces_of S) status.old }
-{
-    let n = count(b);
-    let mut i: usize = 0;
-    while i < n {
-        let at = surface_index(s, bases, surface_at(b, i));
-        status[at] = empty_byte(status[at]);
-        i += 1;
+    // An action: every surface of its range, mip by mip.
+    fn act(&self, status: &mut [u8], range: Range, kind: MemoryInitKind)
+        requires range { RangeInside (session self.now.bytes.now) range }
+        requires status { surface_count (session self.now.bytes.now) ≤ length status.old }
+        ensures { let S = session self.now.bytes.now in
+            status.new ≡ sweep (act_at (action_of range kind)) (surfaces_of S) status.old }
+    {
+        for m in 0..range.mips {
+            self.act_mip(status, range, m, kind);
+        }
+    }
+
+    // The actions of a lent list, in order.
+    fn run_actions(&self, status: &mut [u8], b: &[u8])
+        requires valid { actions_valid (session self.now.bytes.now) (actions_in b.now) ≡ true }
+        requires long { list_bytes action_bytes (count_in b.now) ≤ length b.now }
+        requires status { surface_count (session self.now.bytes.now) ≤ length status.old }
+        ensures { let S = session self.now.bytes.now in
+            status.new ≡ sweep_acts (actions_in b.now) (surfaces_of S) status.old }
+    {
+        for i in 0..count(b) {
+            self.act(status, range_at(b, i), kind_at(b, i));
+        }
+    }
+
+    // The discards of a lent list mark empty.
+    fn run_discards(&self, status: &mut [u8], b: &[u8])
+        requires valid { surfaces_valid (session self.now.bytes.now) (surfaces_in b.now) ≡ true }
+        requires long { list_bytes surface_bytes (count_in b.now) ≤ length b.now }
+        requires status { surface_count (session self.now.bytes.now) ≤ length status.old }
+        ensures { let S = session self.now.bytes.now in
+            status.new ≡ sweep (empty_at (surfaces_in b.now)) (surfaces_of S) status.old }
+    {
+        for i in 0..count(b) {
+            let at = self.index(surface_at(b, i));
+            status[at] = empty_byte(status[at]);
+        }
     }
 }
 
@@ -210,9 +175,13 @@ fn submit_listed(s: &[u8], discards: &[u8], actions: &[u8], status: &mut [u8])
 {
     let mut bases: [usize; MAX_TEXTURES as usize] = [0; MAX_TEXTURES as usize];
     let n = texture_bases(s, &mut bases);
-    restart_bytes(status, n);
-    run_actions(s, &bases, status, actions);
-    run_discards(s, &bases, status, discards);
+    let layout = Layout {
+        bytes: s,
+        bases: &bases,
+    };
+    update(status, 0, n, restart);
+    layout.run_actions(status, actions);
+    layout.run_discards(status, discards);
 }
 
 // A submission of two lent lists, read where they stand; bytes past the last surface are neither read nor written. Where both lists are
@@ -224,8 +193,9 @@ pub fn submit(s: &[u8], discards: &[u8], actions: &[u8], status: &mut [u8])
         status.new ≡ submit_bytes a d (surfaces_of (session s.now)) status.old }
 {
     if (count(discards) == 0) & (count(actions) == 0) {
-        restart_bytes(status, surface_count(s));
-        return;
+        let n = surfaces_before(s, texture_count(s)) as usize;
+        update(status, 0, n, restart);
+    } else {
+        submit_listed(s, discards, actions, status);
     }
-    submit_listed(s, discards, actions, status);
 }

@@ -17,12 +17,12 @@ returns-in_err-validate_session c =
     let p = err_from_is_err_and c.from_residual.result c.from_residual.ensures.1 in
     rw (p.1, p.2) (simp (sym c.is_short.ensures ∙ c.if-is_short.false, refused_test _ _ told.ensures, told.ensures))
 
-pub returns-then-not-lent_valid : goal.returns-then-not-lent_valid
+pub returns-then-not-is_valid : goal.returns-then-not-is_valid
 unfolding entry_refusal
-returns-then-not-lent_valid c =
-    simp (sym c.is_short.ensures ∙ c.if-is_short.false, eq-eqb _ 0 (sym c.in_ok-validate_session.ensures), sym c.lent_valid.ensures ∙ c.if-not-lent_valid.true)
+returns-then-not-is_valid c =
+    simp (sym c.is_short.ensures ∙ c.if-is_short.false, eq-eqb _ 0 (sym c.in_ok-validate_session.ensures), sym c.is_valid.ensures ∙ c.if-not-is_valid.true)
 
 pub returns : goal.returns
 unfolding entry_refusal
 returns c =
-    simp (sym c.is_short.ensures ∙ c.if-is_short.false, eq-eqb _ 0 (sym c.in_ok-validate_session.ensures), sym c.lent_valid.ensures ∙ c.if-not-lent_valid.false)
+    simp (sym c.is_short.ensures ∙ c.if-is_short.false, eq-eqb _ 0 (sym c.in_ok-validate_session.ensures), sym c.is_valid.ensures ∙ c.if-not-is_valid.false)

@@ -1,13 +1,10 @@
--- A float that differs from itself is the NaN; any other has its own pattern.
-use mathlib.Core.Path.{sym, ap}
+-- The NaN has the canonical pattern.
+use mathlib.Core.Path.{ap, sym, ◌∙◌}
 use lib.Ieee
 use lib.Ieee.{binary64}
-use Rattle.encoding.proofs.Nan.{differs, same}
+use Rattle.encoding.proofs.Nan.{nan_of}
 use Rattle.encoding.proofs.bits_of_f64.Goals as goal
 
-pub returns-then-x : goal.returns-then-x
+pub returns-then-is_nan : goal.returns-then-is_nan
 unfolding Ieee.to_bits
-returns-then-x c = sym (ap (Ieee.to_bits binary64) (differs c.args.x c.if-x.true))
-
-pub float_to_bits-result : goal.float_to_bits-result
-float_to_bits-result c = same c.args.x c.if-x.false
+returns-then-is_nan c = ap (Ieee.to_bits binary64) (nan_of c.args.x (sym c.is_nan.ensures.value ∙ c.if-is_nan.true))

@@ -1,11 +1,12 @@
--- The four calls give the four bytes of the definition.
-use Prim.Native.Nat.{◌+◌}
+-- The four bytes are the definition's, seen from the place on.
+use mathlib.Core.Path.{◌≡◌, ◌∙◌}
 use native.Mathlib.Omega.{arith}
-use Rattle.encoding.proofs.Reading.{four}
+use Rattle.definition.specs.Bytes.{u32_at}
+use Rattle.encoding.proofs.Reading.{number_from}
 use Rattle.encoding.proofs.u32_across_end.Goals as goal
 
 pub returns : goal.returns
+unfolding u32_at
 returns c =
-    let c5 = c in
-    let a = c5.args in
-    four a.s.now a.at (a.at + 0) (a.at + 1) (a.at + 2) (a.at + 3) _ _ _ _ c.byte.ensures.0 c.byte-2.ensures.0 c.byte-3.ensures.0 c.byte-4.ensures.0 (omega arith) (omega arith) (omega arith) (omega arith)
+    let whole : c.from_le_bytes.result ≡ u32_at c.rest-rest.result.now 0 = omega (arith, c.from_le_bytes.ensures, c.byte.ensures, c.byte-2.ensures, c.byte-3.ensures, c.byte-4.ensures) in
+    whole ∙ number_from c.rest-rest.result.now c.args.s.now c.args.at c.rest-rest.ensures

@@ -1,8 +1,7 @@
 -- The entries so far, and the sum of the textures so far.
 use native.Mathlib.Omega.{arith}
-use mathlib.Core.Path.{◌≡◌, refl, sym, ap, ◌∙◌}
-use Prim.Native.Nat.{◌+◌, ◌<◌, zero-le}
-use lib.ListN.{length-set}
+use mathlib.Core.Path.{◌≡◌, sym, ap, ◌∙◌}
+use Prim.Native.Nat.{◌+◌, ◌<◌}
 use Rattle.definition.specs.Session.{session, surfaces_in, surfaces_before}
 use Rattle.laws.proofs.Folds.{before_none, before_turn}
 use Rattle.submission.proofs.Bases.{entry_further, sum_fits}
@@ -13,21 +12,15 @@ added : (c : goal.After-surfaces_in) → c.surfaces_in.result ≡ surfaces_in ((
 added c = c.surfaces_in.ensures.0 ∙ ap surfaces_in c.texture_inside.ensures
 
 pub loop-k-init : goal.loop-k-init
-loop-k-init c = (sym (before_none _), (zero-le, (refl, λ j h. absurd (omega arith))))
+loop-k-init c = (sym (before_none _), λ j h. absurd (omega arith))
 
 pub overflow_add-sum : goal.overflow_add-sum
-overflow_add-sum c = let at = c in
-    let inside : at.loop-k.k < (session c.args.s.now).texture_count = omega arith in
-    omega (arith, added c, sum_fits (session c.args.s.now) at.loop-k.k inside)
+overflow_add-sum c =
+    let inside : c.loop-k.k < (session c.args.s.now).texture_count = omega arith in
+    omega (arith, added c, sum_fits (session c.args.s.now) c.loop-k.k inside)
 
 pub loop-k-preserved : goal.loop-k-preserved
-loop-k-preserved c = let at = c in (
-  (λ q. at.loop-k.invariant.0 q + added c q) ∙ sym (before_turn (session c.args.s.now) at.loop-k.k),
-  (
-    omega arith,
-    (
-      length-set at.loop-k.bases _ _ ∙ at.loop-k.invariant.1.1.0,
-      entry_further (surfaces_before (session c.args.s.now)) at.loop-k.bases at.loop-k.k _ _ at.loop-k.invariant.1.1.1 (omega arith) c.wide-at.ensures at.loop-k.invariant.0,
-    ),
-  ),
+loop-k-preserved c = (
+  (λ q. c.loop-k.invariant.0 q + added c q) ∙ sym (before_turn (session c.args.s.now) c.loop-k.k),
+  entry_further (surfaces_before (session c.args.s.now)) c.loop-k.bases c.loop-k.k _ c.loop-k.invariant.1 (omega arith) c.loop-k.invariant.0,
 )
