@@ -85,11 +85,22 @@ pub fn deskcheck_surface_index(
 }
 
 // Whether a call can be judged: the buffers are long enough, the session is readable, and what is lent is valid.
-fn opened(session: &[u8], lent: &LentBuffers) -> Result<(), Refusal>
-    ensures { let l = lent.now in
-        let b = buffers l.discards.now l.actions.now l.clears.now l.status.now in
+fn opened(
+    session: &[u8],
+    discards: &[u8],
+    actions: &[u8],
+    clears: &[u8],
+    status: &[u8],
+) -> Result<(), Refusal>
+    ensures { let b = buffers discards.now actions.now clears.now status.now in
         number_in result ≡ entry_refusal session.now b }
 {
+    let lent = LentBuffers {
+        discards,
+        actions,
+        clears,
+        status,
+    };
     if lent.is_short() {
         return Err(Refusal::InvalidLent);
     }
@@ -113,13 +124,7 @@ fn submitted(
         (number_in result)
         (buffers discards.new actions.new clears.now status.new) }
 {
-    let lent = LentBuffers {
-        discards,
-        actions,
-        clears,
-        status,
-    };
-    opened(session, &lent)?;
+    opened(session, discards, actions, clears, status)?;
     submit(session, discards, actions, status);
     set_count(discards, 0);
     set_count(actions, 0);
@@ -157,13 +162,7 @@ fn checked(
         (reply_in result)
         (buffers discards.new actions.new clears.new status.now) }
 {
-    let lent = LentBuffers {
-        discards,
-        actions,
-        clears,
-        status,
-    };
-    opened(session, &lent)?;
+    opened(session, discards, actions, clears, status)?;
     if i >= pass_count(session) {
         return Err(Refusal::InvalidPass);
     }
