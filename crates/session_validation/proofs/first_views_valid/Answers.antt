@@ -13,7 +13,7 @@ returns-then-not-view_valid c =
     let start = at in
     let row = view_own _ _ (at.loop-k.k - 1) c.view_inside.ensures start.requires.0 in
     let refused = sym (ap (view_valid _) row) ∙ sym c.view_valid.ensures ∙ c.if-not-view_valid.true in
-    sym (at.loop-k.invariant.0 ∙ last_refused _ at.loop-k.k (omega arith) refused)
+    sym (at.loop-k.invariant ∙ last_refused _ at.loop-k.k (omega arith) refused)
 
 pub loop-k-preserved : goal.loop-k-preserved
 loop-k-preserved c =
@@ -21,9 +21,9 @@ loop-k-preserved c =
     let start = at in
     let row = view_own _ _ (at.loop-k.k - 1) c.view_inside.ensures start.requires.0 in
     let valid = sym (ap (view_valid _) row) ∙ sym c.view_valid.ensures ∙ c.if-not-view_valid.false in
-    (at.loop-k.invariant.0 ∙ last_read _ at.loop-k.k (omega arith) valid, omega arith)
+    at.loop-k.invariant ∙ last_read _ at.loop-k.k (omega arith) valid
 
 pub returns : goal.returns
 returns c =
     let e : c.loop-k.k ≡ 0 = omega arith in
-    sym (c.loop-k.invariant.0 ∙ ap (first_views_valid _) e ∙ views_none _)
+    sym (c.loop-k.invariant ∙ ap (first_views_valid _) e ∙ views_none _)
