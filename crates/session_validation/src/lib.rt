@@ -179,7 +179,9 @@ fn view_valid(s: &[u8], textures: u32, v: View) -> bool
     view_in_texture(texture_inside(s, v.texture), v)
 }
 
-// 4: whether each of the first n view rows, which lie inside, can be read. The last is read first.
+// 4: whether each of the first n view rows, which lie inside, can be read. The last is read first. Out of line, since in line it took two
+// instructions more for each view, 4 in 100 of a session's reading.
+#[inline(never)]
 fn first_views_valid(s: &[u8], textures: u32, n: u32) -> bool
     requires { (textures ≡ (session s.now).texture_count) × ViewsInside textures n s.now }
     ensures { result ≡ Re.first_views_valid (session s.now) n }
