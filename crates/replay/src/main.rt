@@ -13,8 +13,8 @@ use definition::sizes::{
 use desk::{deskcheck_pass, deskcheck_session, deskcheck_submit};
 use encoding::u32_at;
 use session::header::{pass_count, texture_count};
-use session::surfaces::surfaces_before;
 use session::pass_row;
+use session::surfaces::surfaces_before;
 use std::io;
 use streams::read_head;
 

@@ -76,7 +76,12 @@ pub fn add_view(s: &[u8], seen: Seen, v: View, place: u32) -> Verdict
     let same_extent = (e.width == seen.width) & (e.height == seen.height);
     let same_samples = e.samples == seen.samples;
     let target = unless(renderable(v), Refusal::NotRenderable, place);
-    let extent = unless_against(first | same_extent, Refusal::DimensionMismatch, place, seen.last);
+    let extent = unless_against(
+        first | same_extent,
+        Refusal::DimensionMismatch,
+        place,
+        seen.last,
+    );
     let samples = unless_against(
         first | same_samples,
         Refusal::SampleCountMismatch,
