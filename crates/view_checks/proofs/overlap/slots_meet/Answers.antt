@@ -1,4 +1,4 @@
--- The invariant: after slot j, whether the range meets what the slots before j take.
+-- The invariant: before turn j, whether the range meets what the slots before j take.
 use mathlib.Core.Path.{sym}
 use Rattle.definition.specs.Surfaces.{layers_of}
 use Rattle.laws.proofs.Overlap.{meets_nil, meets_append}

@@ -1,4 +1,4 @@
--- The invariant: after slot j, whether the range meets what the slots before j take.
+-- The invariant: before turn j, whether the range meets what the slots before j take.
 use mathlib.Core.Path.{◌≡◌}
 use Rattle.definition.specs.Surfaces.{layers_of, meets}
 use Rattle.view_checks.specs.Taken.{taken_in}
