@@ -103,7 +103,7 @@ fn depth_stencil_reply(
 {
     Attachment {
         view: k,
-        usage: usage,
+        usage,
         ops: depth.hal_ops(),
         stencil_ops: stencil.hal_ops(),
         color: black(),
@@ -210,10 +210,8 @@ pub fn color_reply(c: Slot) -> Attachment
         view: c.view,
         usage: COLOR_TARGET,
         ops: ops.hal_ops(),
-        stencil_ops: 0,
         color: ops.clear_value(),
-        depth: 0.0,
-        stencil: 0,
+        ..empty_reply()
     }
 }
 
@@ -224,10 +222,6 @@ pub fn resolve_reply(target: u32) -> Attachment
     Attachment {
         view: target,
         usage: COLOR_TARGET,
-        ops: 0,
-        stencil_ops: 0,
-        color: black(),
-        depth: 0.0,
-        stencil: 0,
+        ..empty_reply()
     }
 }

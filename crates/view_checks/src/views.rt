@@ -119,10 +119,7 @@ pub fn see_view(s: &[u8], seen: Seen, v: View, place: u32) -> Seen
         };
     }
     Seen {
-        layers: seen.layers,
-        width: seen.width,
-        height: seen.height,
-        samples: seen.samples,
         last: place,
+        ..seen
     }
 }
