@@ -1,6 +1,5 @@
 -- What a pass finds in the lists, counted.
-use Rattle.std.specs.Prelude as code
-use Rattle.std.specs.Prelude.{ℕ, ◌+◌, ◌*◌, ◌≤◌, ◌≡◌, true, false, List, length, None, Some}
+use Rattle.std.specs.Prelude.{ℕ, ◌+◌, ◌*◌, ◌≤◌, ◌≡◌, List, length}
 use Rattle.std.proofs.Math.Option.{Option}
 use Rattle.definition.specs.Sizes.{max_discards, max_attachments, discards_bytes}
 use Rattle.definition.specs.declared.Surface.{Surface}
@@ -8,6 +7,7 @@ use Rattle.definition.specs.declared.Range.{Range}
 use Rattle.definition.specs.declared.MemoryInitKind.{MemoryInitKind}
 use Rattle.laws.specs.Plans.{Plan, leaving_by, returned_by, added_by, leaving_all, returned_all, added_all, steps_fit}
 use Rattle.lists.specs.Lists.{count_in}
+use Rattle.memory_init.specs.declared.tally.Found.{Found}
 use Rattle.memory_init.specs.declared.tally.Tally.{Tally}
 
 -- Lent discards: all their room, and no more entries than that.
@@ -16,7 +16,7 @@ pub record DiscardsInRoom (b : List ℕ) : Type 0 where
   pub count : count_in b ≤ max_discards
 
 -- What a registration or none finds among the discards d.
-pub record FoundBy (k : Option MemoryInitKind) (r : Range) (d : List Surface) (f : Tally) : Type 0 where
+pub record FoundBy (k : Option MemoryInitKind) (r : Range) (d : List Surface) (f : Found) : Type 0 where
   pub leaving : f.leaving ≡ length (leaving_by k r d)
   pub returned : f.returned ≡ length (returned_by k r d)
   pub added : f.added ≡ length (added_by k r d)
@@ -24,15 +24,10 @@ pub record FoundBy (k : Option MemoryInitKind) (r : Range) (d : List Surface) (f
   pub most_returned : f.returned ≤ max_discards
   pub most_added : f.added ≤ max_discards + 1
 
--- What plans find among them, where every step has room.
+-- What plans find among them, and whether every step has room.
 pub record TallyOf (ps : List Plan) (d : List Surface) (t : Tally) : Type 0 where
-  pub fits : steps_fit ps (length d) d ≡ true
+  pub fits : t.fits ≡ steps_fit ps (length d) d
   pub leaving : t.leaving ≡ length (leaving_all ps d)
   pub returned : t.returned ≡ length (returned_all ps d)
   pub added : t.added ≡ length (added_all ps d)
   pub most_added : t.added ≤ max_attachments * (max_discards + 1)
-
--- None where a step has no room.
-abbrev pub Tallied : List Plan → List Surface → code.Option Tally → Type 0
-Tallied ps d None = steps_fit ps (length d) d ≡ false
-Tallied ps d (Some t) = TallyOf ps d t

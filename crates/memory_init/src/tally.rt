@@ -6,7 +6,7 @@ ghost use Rattle.definition.specs.MemoryInit.{matching};
 ghost use Rattle.laws.specs.Plans.{listed_by};
 ghost use Rattle.lists.specs.Lists.{surfaces_in};
 ghost use Rattle.memory_init.specs.Plans.{init_kind, plan_in, plans_in};
-ghost use Rattle.memory_init.specs.Tally.{DiscardsInRoom, FoundBy, Tallied};
+ghost use Rattle.memory_init.specs.Tally.{DiscardsInRoom, FoundBy, TallyOf};
 
 use crate::Planned;
 use definition::sizes::MAX_DISCARDS;
@@ -14,10 +14,19 @@ use definition::{MemoryInitKind, Range};
 use lists::{count, surface_at};
 use ranges::hits;
 
-// What one plan or all plans of a pass find: the discards that leave the list, those of them that are returned as clears, and the
-// actions that they add.
+// What one plan finds: the discards that leave the list, those of them that are returned as clears, and the actions that it adds.
+#[derive(Clone, Copy)]
+pub struct Found {
+    pub leaving: usize,
+    pub returned: usize,
+    pub added: usize,
+}
+
+// The same of all plans of a pass, and whether the discards have room at every step.
 #[derive(Clone, Copy)]
 pub struct Tally {
+    // A flag, since the counts are promised where a step has no room too: TallyOf.
+    pub fits: bool,
     pub leaving: usize,
     pub returned: usize,
     pub added: usize,
@@ -38,18 +47,18 @@ fn hits_in(discards: &[u8], range: Range) -> usize
 }
 
 // What a registration finds: the discards in its range leave, and a needing one returns them.
-fn found_by_action(discards: &[u8], range: Range, kind: MemoryInitKind) -> Tally
+fn found_by_action(discards: &[u8], range: Range, kind: MemoryInitKind) -> Found
     requires { DiscardsInRoom discards.now }
     ensures { FoundBy (some kind) range (surfaces_in discards.now) result }
 {
     let n = hits_in(discards, range);
     match kind {
-        MemoryInitKind::ImplicitlyInitialized => Tally {
+        MemoryInitKind::ImplicitlyInitialized => Found {
             leaving: n,
             returned: 0,
             added: 1,
         },
-        MemoryInitKind::NeedsInitializedMemory => Tally {
+        MemoryInitKind::NeedsInitializedMemory => Found {
             leaving: n,
             returned: n,
             added: n + 1,
@@ -58,13 +67,13 @@ fn found_by_action(discards: &[u8], range: Range, kind: MemoryInitKind) -> Tally
 }
 
 // What a registration or none finds.
-fn found_by(discards: &[u8], range: Range, kind: Option<MemoryInitKind>) -> Tally
+fn found_by(discards: &[u8], range: Range, kind: Option<MemoryInitKind>) -> Found
     requires { DiscardsInRoom discards.now }
     ensures { FoundBy (init_kind kind) range (surfaces_in discards.now) result }
 {
     match kind {
         Some(k) => found_by_action(discards, range, k),
-        None => Tally {
+        None => Found {
             leaving: 0,
             returned: 0,
             added: 0,
@@ -79,14 +88,15 @@ fn listed_by(p: &Planned) -> u32
     if p.discards { p.range.layers } else { 0 }
 }
 
-// What a pass finds, plan by plan, or none where a step has no room for its discards.
-pub fn tally_pass(discards: &[u8], plans: &[Planned]) -> Option<Tally>
+// What a pass finds, plan by plan.
+pub fn tally_pass(discards: &[u8], plans: &[Planned]) -> Tally
     requires discards_in_room { DiscardsInRoom discards.now }
     requires few_plans { length plans.now ≤ max_attachments }
-    ensures { Tallied (plans_in plans.now) (surfaces_in discards.now) result }
+    ensures { TallyOf (plans_in plans.now) (surfaces_in discards.now) result }
 {
     let mut held = count(discards);
     let mut tally = Tally {
+        fits: true,
         leaving: 0,
         returned: 0,
         added: 0,
@@ -94,12 +104,10 @@ pub fn tally_pass(discards: &[u8], plans: &[Planned]) -> Option<Tally>
     for p in plans {
         let found = found_by(discards, p.range, p.kind);
         held = held.saturating_sub(found.leaving) + listed_by(p) as usize;
-        if held > MAX_DISCARDS {
-            return None;
-        }
+        tally.fits &= held <= MAX_DISCARDS;
         tally.leaving += found.leaving;
         tally.returned += found.returned;
         tally.added += found.added;
     }
-    Some(tally)
+    tally
 }

@@ -2,8 +2,7 @@
 use Prim.Native.Nat.{◌≤◌}
 use native.Mathlib.Omega.{arith}
 use Rattle.std.specs.Prelude as code
-use Rattle.std.specs.Prelude.{Some}
-use mathlib.Core.Path.{◌≡◌, refl, sym, ap, subst, ◌∙◌}
+use mathlib.Core.Path.{◌≡◌, refl, sym, ap, ◌∙◌}
 use mathlib.Core.Bool.{true, false, cond}
 use mathlib.Core.List.{List, map}
 use lib.ListN.{length}
@@ -22,7 +21,7 @@ use Rattle.lists.specs.Lists.{count_in, surface_of, action_of_bytes}
 use Rattle.lists.specs.Lent.{ListBytes, lists_in, Leaves}
 use Rattle.lists.proofs.Lists.{list_length}
 use Rattle.memory_init.specs.declared.tally.Tally.{Tally}
-use Rattle.memory_init.specs.Tally.{DiscardsInRoom, TallyOf, Tallied}
+use Rattle.memory_init.specs.Tally.{DiscardsInRoom, TallyOf}
 use Rattle.recording.specs.Recording.{Recordable}
 use Rattle.attachments.specs.declared.DepthStencilPart.{DepthStencilPart}
 use Rattle.attachments.specs.declared.resolve.Attachments.{Attachments}
@@ -56,35 +55,31 @@ module _ (S : Session) (p : Pass) (b : ListBytes) (asked : Checkable S b) where
       refused r v (refused_by_start S p (lists_in b) (ap is_accepted (sym ev) ∙ h) ∙ ap (λ q. refused_pass q (lists_in b)) (sym ev)) h e
 
   -- What a pass that 5, 10 to 48 and 51 accept finds.
-  module _ (ok : is_accepted (check S p).verdict ≡ true) (ps : List Plan) (found : code.Option Tally) (v : Verdict) (are : ps ≡ map plan_of (attachments S p))
-      (counted : Tallied ps (lists_in b).discards found) (told : v ≡ room_by found (count_in b.actions)) where
+  module _ (ok : is_accepted (check S p).verdict ≡ true) (ps : List Plan) (t : Tally) (v : Verdict) (are : ps ≡ map plan_of (attachments S p))
+      (counted : TallyOf ps (lists_in b).discards t) (told : v ≡ room_by t (count_in b.actions)) where
     verdict : v ≡ room_verdict (attachments S p) (new_pass (lists_in b))
-    verdict = told ∙ room_told (attachments S p) ps (new_pass (lists_in b)) are (pass_separate S asked.views p ok) found counted (count_in b.actions) actions_in_lem
+    verdict = told ∙ room_told (attachments S p) ps t (new_pass (lists_in b)) are (pass_separate S asked.views p ok) counted (count_in b.actions) actions_in_lem
 
     pub no_room : (r : Reply) → is_accepted v ≡ false → r ≡ replied (Def.refusal v) → Checked S p b r b
     no_room r h e = refused r v (refused_by_room S p (lists_in b) v ok verdict h) h e
 
-    module _ (t : Tally) (is : found ≡ Some t) (h : is_accepted v ≡ true) where
-      -- It is tallied.
-      tallied : TallyOf ps (lists_in b).discards t
-      tallied = subst (Tallied ps (lists_in b).discards) is counted
-
-      -- There is room for the actions.
-      room : is_accepted (room_by (Some t) (count_in b.actions)) ≡ true
-      room = ap (λ q. is_accepted (room_by q (count_in b.actions))) (sym is) ∙ ap is_accepted (sym told) ∙ h
+    module _ (h : is_accepted v ≡ true) where
+      -- There is room.
+      room : is_accepted (room_by t (count_in b.actions)) ≡ true
+      room = ap is_accepted (sym told) ∙ h
 
       pub recordable : Recordable ps t b
       recordable = record {
-        tallied = tallied;
+        tallied = counted;
         long = asked.long;
         held = held;
         layers = few_layered S p asked.textures asked.views ok ps are;
-        fits = together_fits (attachments S p) ps (lists_in b) are (pass_separate S asked.views p ok) t tallied (count_in b.actions) actions_in_lem room asked.fits.discards;
+        fits = together_fits (attachments S p) ps t (lists_in b) are (pass_separate S asked.views p ok) counted (count_in b.actions) actions_in_lem room asked.fits.discards;
       }
 
       -- The clears are few, so that their number fits a u32.
       pub returned_few : t.returned ≤ max_clears
-      returned_few = few_returned (attachments S p) ps (lists_in b) are (pass_separate S asked.views p ok) t tallied (count_in b.actions) actions_in_lem room asked.fits.discards
+      returned_few = few_returned (attachments S p) ps t (lists_in b) are (pass_separate S asked.views p ok) counted (count_in b.actions) actions_in_lem room asked.fits.discards
 
       -- Accepted: what is recorded and replied is the definition's.
       pub recorded : (r : Reply) (b' : ListBytes) (seen : Seen) (d : code.Option DepthStencilPart) (a : Attachments) → seen ≡ (check S p).seen → PartOf S d (depth_stencil_part S p)
@@ -107,8 +102,8 @@ module _ (S : Session) (p : Pass) (b : ListBytes) (asked : Checkable S b) where
           let apart = pass_separate S asked.views p ok in
           let xs = attachments S p in
           let o : check_pass S p (lists_in b) ≡ accepted_pass S (check S p).seen xs (lists_in b) = accepted_pass_lem S p (lists_in b) v ok verdict h in
-          let all : together ps (new_pass (lists_in b)) ≡ attach_all xs (new_pass (lists_in b)) = left_together xs ps (lists_in b) are apart in
-          let returned : t.returned ≡ length (attach_all xs (new_pass (lists_in b))).clears = tallied.returned ∙ ap (λ (q : Lists). length q.clears) all in
+          let all : together ps (new_pass (lists_in b)) ≡ attach_all xs (new_pass (lists_in b)) = left_together xs ps t (lists_in b) are apart counted in
+          let returned : t.returned ≡ length (attach_all xs (new_pass (lists_in b))).clears = counted.returned ∙ ap (λ (q : Lists). length q.clears) all in
           let said : r ≡ replied (acceptance S (check S p).seen xs (attach_all xs (new_pass (lists_in b))).clears) = e ∙ λ i. record {
             number = 0;
             place = nowhere;

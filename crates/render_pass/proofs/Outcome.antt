@@ -1,7 +1,7 @@
 -- The outcome of a check, by what refuses the pass: its row, operations and views, then the room of the lists, or nothing.
-use Prim.Native.Nat.{ℕ, ◌+◌, ◌≤◌}
-use Rattle.std.specs.Prelude as code
-use Rattle.std.specs.Prelude.{None, Some}
+use Prim.Native.Nat.{ℕ, ◌+◌, ◌≤◌, ◌<◌}
+use Rattle.std.specs.Prelude.{Ok, Err}
+use Rattle.std.proofs.lemmas.Bool.{le-leb, lt-leb}
 use native.Mathlib.Omega.{arith}
 use mathlib.Core.Path.{◌≡◌, refl, sym, ap, subst, ◌∙◌}
 use mathlib.Core.Bool.{Bool, true, false, cond}
@@ -17,13 +17,14 @@ use Rattle.definition.specs.Check.{check}
 use Rattle.definition.specs.MemoryInit.{Lists}
 use Rattle.definition.specs.Attachments.{Attached, range_in, depth_stencil_part, slot_parts, attach_all, attachments}
 use Rattle.definition.specs.Pass.{room_verdict, new_pass, pass_verdict, accepted_pass, refused_pass, outcome, check_pass}
+use Rattle.definition.specs.declared.refusals.Refusal.TheVariants.{TooManyDiscards, TooManyActions}
 use Rattle.definition.specs.declared.Verdict.{Verdict}
 use Rattle.definition.specs.declared.Progress.{Progress}
 use Rattle.laws.specs.Separate.{Separate}
 use Rattle.laws.specs.Plans.{Plan, plan_of, leaving_all, staying_all, added_all, listed_all, steps_fit, together, Layered}
 use Rattle.laws.proofs.Readable.{few_layers}
 use Rattle.laws.proofs.Tests.{clash, cond_on, cond_off}
-use Rattle.laws.proofs.Verdicts.{then_stop, then_go, unless_on}
+use Rattle.laws.proofs.Verdicts.{then_left, then_right, then_stop, then_go, unless_on}
 use Rattle.laws.proofs.Plans.{attach_together, room_counted, staying_count, steps_end, returned_most}
 use Rattle.noninterference.proofs.Passes.{All}
 use Rattle.noninterference.proofs.Accepted.{Ranged, pass_ranged}
@@ -32,8 +33,8 @@ use Rattle.lists.specs.Lent.{Fits}
 use Rattle.memory_init.specs.declared.Planned.{Planned}
 use Rattle.memory_init.specs.declared.tally.Tally.{Tally}
 use Rattle.memory_init.specs.Plans.{plans_in}
-use Rattle.memory_init.specs.Tally.{TallyOf, Tallied}
-use Rattle.render_pass.specs.Outcome.{room_by}
+use Rattle.memory_init.specs.Tally.{TallyOf}
+use Rattle.render_pass.specs.Outcome.{room_by, RoomOf}
 
 -- ── the attachments
 
@@ -68,43 +69,53 @@ few_layered S p textures views h ps are = subst Layered (sym are) (ranged_layers
 
 -- ── 49 and 50
 
--- Plans that meet no surface twice, and the discards of l.
-module _ (xs : List Attached) (ps : List Plan) (l : Lists) (are : ps ≡ map plan_of xs) (apart : Separate xs) where
-  -- What is told by what they find is the definition's verdict.
-  pub room_told : (found : code.Option Tally) → Tallied ps l.discards found → (a : ℕ) → a ≡ length l.actions → room_by found a ≡ room_verdict xs l
-  unfolding unless
-  room_told None full a e =
-      sym (then_stop _ (unless (leb (length l.actions + length (added_all (map plan_of xs) l.discards)) max_actions) 50 nowhere) refl)
-      ∙ ap (λ q. unless q 49 nowhere then unless (leb (length l.actions + length (added_all (map plan_of xs) l.discards)) max_actions) 50 nowhere)
-      (sym full ∙ ap (λ q. steps_fit q (length l.discards) l.discards) are)
-      ∙ sym (room_counted xs l apart)
-  room_told (Some t) counted a e =
-      (λ i. unless (leb (e i + (counted.added ∙ ap (λ q. length (added_all q l.discards)) are) i) max_actions) 50 nowhere)
-      ∙ sym (then_go (unless true 49 nowhere) _ refl)
-      ∙ ap (λ q. unless q 49 nowhere then unless (leb (length l.actions + length (added_all (map plan_of xs) l.discards)) max_actions) 50 nowhere)
-      (sym counted.fits ∙ ap (λ q. steps_fit q (length l.discards) l.discards) are)
-      ∙ sym (room_counted xs l apart)
+-- What a pass finds, and how many actions there are.
+module _ (t : Tally) (a : ℕ) where
+  -- A step has no room.
+  pub steps_full : t.fits ≡ false → RoomOf t a (Err TooManyDiscards)
+  unfolding room_by ◌then◌ unless
+  steps_full h = (simp h, simp h)
 
-  module _ (t : Tally) (counted : TallyOf ps l.discards t) where
-    -- Where there is room, the lists fit that the plans leave.
-    module _ (a : ℕ) (e : a ≡ length l.actions) (accepted : is_accepted (room_by (Some t) a) ≡ true) (few : length l.discards ≤ max_discards) where
-      pub few_actions : a + t.added ≤ max_actions
-      few_actions = leb-true (a + t.added) max_actions (unless_on (leb (a + t.added) max_actions) 50 nowhere refl accepted)
+  -- Every step has room, and the actions have none.
+  pub actions_full : t.fits ≡ true → max_actions < a + t.added → RoomOf t a (Err TooManyActions)
+  unfolding room_by ◌then◌ unless
+  actions_full h more = let full = lt-leb (a + t.added) max_actions more in (simp (h, full), simp (h, full))
 
-      pub few_discards : length (staying_all ps l.discards ++ listed_all ps) ≤ max_discards
-      few_discards =
-          subst (λ q. length (staying_all q l.discards ++ listed_all q) ≤ max_discards) (sym are)
-          (steps_end xs l.discards apart (sym (ap (λ q. steps_fit q (length l.discards) l.discards) are) ∙ counted.fits) few)
+  -- There is room.
+  pub all_fits : t.fits ≡ true → a + t.added ≤ max_actions → RoomOf t a (Ok tt)
+  unfolding room_by ◌then◌ unless
+  all_fits h few = simp (h, le-leb (a + t.added) max_actions few)
 
-      pub few_returned : t.returned ≤ max_clears
-      few_returned = omega (arith, counted.returned, returned_most ps l.discards, ap (λ q. length (leaving_all q l.discards)) are, staying_count xs l.discards apart)
+-- Plans that meet no surface twice, and what they find among the discards of l.
+module _ (xs : List Attached) (ps : List Plan) (t : Tally) (l : Lists) (are : ps ≡ map plan_of xs) (apart : Separate xs) (counted : TallyOf ps l.discards t) where
+  -- What is told by the tally is the definition's verdict.
+  pub room_told : (a : ℕ) → a ≡ length l.actions → room_by t a ≡ room_verdict xs l
+  unfolding room_by
+  room_told a e = (λ i. unless ((counted.fits ∙ ap (λ q. steps_fit q (length l.discards) l.discards) are) i) 49 nowhere
+      then unless (leb (e i + (counted.added ∙ ap (λ q. length (added_all q l.discards)) are) i) max_actions) 50 nowhere) ∙ sym (room_counted xs l apart)
 
-      pub together_fits : Fits (together ps (new_pass l))
-      together_fits = record {
-        discards = few_discards;
-        actions = omega (arith, few_actions, counted.added, length-append l.actions (added_all ps l.discards));
-        clears = omega (arith, few_returned, counted.returned);
-      }
+  -- Where there is room, the lists fit that the plans leave.
+  module _ (a : ℕ) (e : a ≡ length l.actions) (accepted : is_accepted (room_by t a) ≡ true) (few : length l.discards ≤ max_discards) where
+    steps : steps_fit (map plan_of xs) (length l.discards) l.discards ≡ true
+    unfolding room_by
+    steps = sym (counted.fits ∙ ap (λ q. steps_fit q (length l.discards) l.discards) are) ∙ unless_on t.fits 49 nowhere refl (then_left _ _ accepted)
+
+    pub few_actions : a + t.added ≤ max_actions
+    unfolding room_by
+    few_actions = leb-true (a + t.added) max_actions (unless_on (leb (a + t.added) max_actions) 50 nowhere refl (then_right _ _ accepted))
+
+    pub few_discards : length (staying_all ps l.discards ++ listed_all ps) ≤ max_discards
+    few_discards = subst (λ q. length (staying_all q l.discards ++ listed_all q) ≤ max_discards) (sym are) (steps_end xs l.discards apart steps few)
+
+    pub few_returned : t.returned ≤ max_clears
+    few_returned = omega (arith, counted.returned, returned_most ps l.discards, ap (λ q. length (leaving_all q l.discards)) are, staying_count xs l.discards apart)
+
+    pub together_fits : Fits (together ps (new_pass l))
+    together_fits = record {
+      discards = few_discards;
+      actions = omega (arith, few_actions, counted.added, length-append l.actions (added_all ps l.discards));
+      clears = omega (arith, few_returned, counted.returned);
+    }
 
   -- What they leave is what the attachments leave.
   pub left_together : together ps (new_pass l) ≡ attach_all xs (new_pass l)

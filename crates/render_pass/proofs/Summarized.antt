@@ -3,8 +3,6 @@ use Prim.Native.Nat.{ℕ, ◌+◌, ◌≤◌}
 use native.Mathlib.Omega.{arith}
 use mathlib.Core.Path.{◌≡◌, sym, ap, subst, ◌∙◌}
 use mathlib.Core.Bool.{true, false}
-use Rattle.std.specs.Prelude as code
-use Rattle.std.specs.Prelude.{Some}
 use mathlib.Core.List.{List, [], ◌++◌, map}
 use lib.ListN.{length, replicate, length-append}
 use lib.ListN.{length-replicate}
@@ -25,7 +23,7 @@ use Rattle.noninterference.proofs.Accepted.{pass_separate}
 use Rattle.lists.specs.Lists.{surface_of, surfaces_in, SurfacesBecome}
 use Rattle.lists.proofs.Lists.{list_length, becomes_count}
 use Rattle.memory_init.specs.declared.tally.Tally.{Tally}
-use Rattle.memory_init.specs.Tally.{TallyOf, Tallied}
+use Rattle.memory_init.specs.Tally.{TallyOf}
 use Rattle.discard_list.specs.Discards.{LentDiscards}
 use Rattle.render_pass.specs.declared.summary.PassSummary.{PassSummary}
 use Rattle.render_pass.specs.Outcome.{room_by}
@@ -56,35 +54,31 @@ module _ (S : Session) (p : Pass) (d : List ℕ) (a : ℕ) (asked : Summarizable
   stopped r v ev h e = refused r v (λ l for. refused_by_start S p l (ap is_accepted (sym ev) ∙ h) ∙ ap (λ q. refused_pass q l) (sym ev)) e
 
   -- What a pass that 5, 10 to 48 and 51 accept finds.
-  module _ (ok : is_accepted (check S p).verdict ≡ true) (ps : List Plan) (found : code.Option Tally) (v : Verdict) (are : ps ≡ map plan_of (attachments S p)) (counted : Tallied ps (surfaces_in d) found)
-      (told : v ≡ room_by found a) where
+  module _ (ok : is_accepted (check S p).verdict ≡ true) (ps : List Plan) (t : Tally) (v : Verdict) (are : ps ≡ map plan_of (attachments S p)) (counted : TallyOf ps (surfaces_in d) t)
+      (told : v ≡ room_by t a) where
     verdict : (l : Lists) → StandFor d a l → v ≡ room_verdict (attachments S p) (new_pass l)
     verdict l for =
-        told ∙ room_told (attachments S p) ps (new_pass l) are (pass_separate S asked.views p ok) found
-        (subst (λ q. Tallied ps q found) for.discards counted) a for.actions
+        told ∙ room_told (attachments S p) ps t (new_pass l) are (pass_separate S asked.views p ok)
+        (subst (λ q. TallyOf ps q t) for.discards counted) a for.actions
 
     pub no_room : (r : PassSummary) → is_accepted v ≡ false → r ≡ refused_summary v a → Summarized S p d a r d
     no_room r h e = refused r v (λ l for. refused_by_room S p l v ok (verdict l for) h) e
 
-    module _ (t : Tally) (is : found ≡ Some t) (h : is_accepted v ≡ true) where
+    module _ (h : is_accepted v ≡ true) where
       few_held : length (surfaces_in d) ≤ max_discards
       few_held = omega (arith, asked.held.count, list_length surface_bytes surface_of d)
 
-      -- It is tallied.
-      tallied : TallyOf ps (surfaces_in d) t
-      tallied = subst (Tallied ps (surfaces_in d)) is counted
-
-      -- There is room for the actions.
-      room : is_accepted (room_by (Some t) a) ≡ true
-      room = ap (λ q. is_accepted (room_by q a)) (sym is) ∙ ap is_accepted (sym told) ∙ h
+      -- There is room.
+      room : is_accepted (room_by t a) ≡ true
+      room = ap is_accepted (sym told) ∙ h
 
       discards_after : length (staying_all ps (surfaces_in d) ++ listed_all ps) ≤ max_discards
-      discards_after = few_discards (attachments S p) ps (stood d a) are (pass_separate S asked.views p ok) t tallied a (stood_for d a) room few_held
+      discards_after = few_discards (attachments S p) ps t (stood d a) are (pass_separate S asked.views p ok) counted a (stood_for d a) room few_held
 
       pub lendable : LentDiscards ps t.leaving d
       lendable = record {
         held = asked.held;
-        counted = tallied.leaving;
+        counted = counted.leaving;
         layers = few_layered S p asked.textures asked.views ok ps are;
         room = record { bytes = omega (arith, discards_after, asked.held.long); small = omega (arith, discards_after) };
       }
@@ -97,8 +91,8 @@ module _ (S : Session) (p : Pass) (d : List ℕ) (a : ℕ) (asked : Summarizable
           let xs = attachments S p in
           let apart = pass_separate S asked.views p ok in
           let o : (l : Lists) → StandFor d a l → check_pass S p l ≡ accepted_pass S (check S p).seen xs l = λ l for. accepted_pass_lem S p l v ok (verdict l for) h in
-          let of : (l : Lists) → StandFor d a l → TallyOf ps l.discards t = λ l for. subst (λ q. TallyOf ps q t) for.discards tallied in
-          let all : (l : Lists) → StandFor d a l → together ps (new_pass l) ≡ attach_all xs (new_pass l) = λ l for. left_together xs ps l are apart in
+          let of : (l : Lists) → StandFor d a l → TallyOf ps l.discards t = λ l for. subst (λ q. TallyOf ps q t) for.discards counted in
+          let all : (l : Lists) → StandFor d a l → together ps (new_pass l) ≡ attach_all xs (new_pass l) = λ l for. left_together xs ps t l are apart (of l for) in
           let added : (l : Lists) → StandFor d a l → a + t.added ≡ length (attach_all xs (new_pass l)).actions =
           λ l for. omega (arith, for.actions, (of l for).added, length-append l.actions (added_all ps l.discards), ap (λ (q : Lists). length q.actions) (all l for)) in
           record {
@@ -115,6 +109,6 @@ module _ (S : Session) (p : Pass) (d : List ℕ) (a : ℕ) (asked : Summarizable
               actions = ap (λ q. q.actions) e ∙ added l for ∙ sym (ap (λ q. length q.lists.actions) (o l for));
             };
             held = record { long = omega (arith, asked.held.long, long); count = omega (arith, becomes_count left, discards_after) };
-            few_actions = omega (arith, ap (λ q. q.actions) e, few_actions xs ps (stood d a) are apart t tallied a (stood_for d a) room few_held);
-            few_clears = omega (arith, ap (λ q. q.clears) e, few_returned xs ps (stood d a) are apart t tallied a (stood_for d a) room few_held);
+            few_actions = omega (arith, ap (λ q. q.actions) e, few_actions xs ps t (stood d a) are apart counted a (stood_for d a) room few_held);
+            few_clears = omega (arith, ap (λ q. q.clears) e, few_returned xs ps t (stood d a) are apart counted a (stood_for d a) room few_held);
           }

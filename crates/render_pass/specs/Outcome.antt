@@ -1,11 +1,11 @@
 -- What the structs of a pass check stand for in the definition, and what the check asks and promises.
 use Rattle.std.specs.Prelude as code
-use Rattle.std.specs.Prelude.{ℕ, ◌+◌, ◌≡◌, ◌≢◌, true, false, cond, leb, length, None, Some, Ok, Err}
+use Rattle.std.specs.Prelude.{ℕ, ◌+◌, ◌≡◌, ◌≢◌, true, false, cond, leb, length, Ok, Err}
 use Rattle.definition.specs.Sizes.{max_actions, max_attachments}
 use Rattle.definition.specs.Session.{Pass, Session}
 use Rattle.definition.specs.Readable.{textures_valid, views_valid}
 use Rattle.definition.specs.Refusals.{number_of}
-use Rattle.definition.specs.Verdict.{nowhere, is_accepted, refused_at, unless}
+use Rattle.definition.specs.Verdict.{nowhere, is_accepted, refused_at, ◌then◌, unless}
 use Rattle.definition.specs.declared.refusals.Refusal.{Refusal}
 use Rattle.definition.specs.Pass as Def
 use Rattle.definition.specs.Pass.{check_pass}
@@ -33,14 +33,13 @@ replied r = record {
 }
 
 -- 49 and 50, by what a pass finds in the lists and how many actions there are.
-abbrev pub room_by : code.Option Tally → ℕ → Verdict
-room_by None actions = unless false 49 nowhere
-room_by (Some t) actions = unless (leb (actions + t.added) max_actions) 50 nowhere
+unfoldable pub room_by : Tally → ℕ → Verdict
+room_by t actions = unless t.fits 49 nowhere then unless (leb (actions + t.added) max_actions) 50 nowhere
 
--- What a pass finds, where it has room, or why it is refused.
-abbrev pub RoomOf : code.Option Tally → ℕ → code.Result Tally Refusal → Type 0
-RoomOf found actions (Ok t) = (found ≡ Some t) × (is_accepted (room_by found actions) ≡ true)
-RoomOf found actions (Err why) = (refused_at (number_of why) nowhere ≡ room_by found actions) × (is_accepted (room_by found actions) ≡ false)
+-- Nothing where there is room, or why the pass is refused.
+abbrev pub RoomOf : Tally → ℕ → code.Result Unit Refusal → Type 0
+RoomOf t actions (Ok x) = is_accepted (room_by t actions) ≡ true
+RoomOf t actions (Err why) = (refused_at (number_of why) nowhere ≡ room_by t actions) × (is_accepted (room_by t actions) ≡ false)
 
 -- What a check asks: valid textures and views, and lent lists that are long enough and in their room.
 pub record Checkable (S : Session) (b : ListBytes) : Type 0 where

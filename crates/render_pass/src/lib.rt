@@ -5,7 +5,7 @@
 
 pub mod summary;
 
-ghost use Rattle.std.specs.Prelude.{◌≡◌, true, cond, ◌+◌, ◌*◌, ◌≤◌, IfSome};
+ghost use Rattle.std.specs.Prelude.{◌≡◌, true, cond, ◌+◌, ◌*◌, ◌≤◌};
 ghost use Rattle.definition.specs.Sizes.{max_slots, max_discards, max_actions, max_attachments};
 ghost use Rattle.definition.specs.Session.{session};
 ghost use Rattle.definition.specs.Check.{check, view_steps};
@@ -90,18 +90,19 @@ fn start(pass: &PassRow) -> Progress
 }
 
 // 49 if a step has no room for its discards, then 50 if the end has none for all actions, of which there are so many.
-#[tactic(auto, unfolding(definition::specs::Verdict::unless))]
-fn room_verdict(found: Option<Tally>, actions: usize) -> Result<Tally, Refusal>
+#[tactic(auto, using(crate::proofs::Outcome::steps_full, crate::proofs::Outcome::actions_full, crate::proofs::Outcome::all_fits))]
+fn room_verdict(t: Tally, actions: usize) -> Result<(), Refusal>
     requires few_actions { actions ≤ max_actions }
-    requires few_added { IfSome found (λ t. t.added ≤ max_attachments * (max_discards + 1)) }
-    ensures { RoomOf found actions result }
+    requires few_added { t.added ≤ max_attachments * (max_discards + 1) }
+    ensures { RoomOf t actions result }
 {
-    let t = found.ok_or(Refusal::TooManyDiscards)?;
-    if actions + t.added <= MAX_ACTIONS {
-        Ok(t)
-    } else {
-        Err(Refusal::TooManyActions)
+    if !t.fits {
+        return Err(Refusal::TooManyDiscards);
     }
+    if actions + t.added > MAX_ACTIONS {
+        return Err(Refusal::TooManyActions);
+    }
+    Ok(())
 }
 
 // 1 for true.
@@ -184,11 +185,10 @@ fn finish(
     let n = pass.colors();
     let resolved = plans_of(pass, &d, n);
     let plans = resolved.as_slice();
-    let found = tally_pass(discards, plans);
-    let t = match room_verdict(found, count(actions)) {
-        Ok(t) => t,
-        Err(why) => return refusal(refused_at(why, NOWHERE)),
-    };
+    let t = tally_pass(discards, plans);
+    if let Err(why) = room_verdict(t, count(actions)) {
+        return refusal(refused_at(why, NOWHERE));
+    }
     record_pass(discards, actions, clears, plans, t);
     let replies = replies_of(pass, &d, n);
     let records = replies.records;

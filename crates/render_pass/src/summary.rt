@@ -51,11 +51,10 @@ fn finish_summary(pass: &PassRow, seen: Seen, discards: &mut [u8], actions: usiz
     let d = depth_stencil_part(pass);
     let resolved = plans_of(pass, &d, pass.colors());
     let plans = resolved.as_slice();
-    let found = tally_pass(discards, plans);
-    let t = match room_verdict(found, actions) {
-        Ok(t) => t,
-        Err(why) => return refused_summary(refused_at(why, NOWHERE), actions),
-    };
+    let t = tally_pass(discards, plans);
+    if let Err(why) = room_verdict(t, actions) {
+        return refused_summary(refused_at(why, NOWHERE), actions);
+    }
     record_discards(discards, plans, t.leaving);
     PassSummary {
         verdict: accepted(),

@@ -26,14 +26,14 @@ planned : (c : After-room_verdict) → plans_in c.as_slice-plans.result.now ≡ 
 planned c = lent_plans _ _ c.colors-n.ensures c.as_slice-plans.ensures.all c.plans_of-resolved.ensures
 
 -- The room is told by the actions that are lent.
-told : (c : After-room_verdict) → room_by c.tally_pass-found.result c.count.result ≡ room_by c.tally_pass-found.result (count_in c.args.actions.now)
-told c = ap (room_by c.tally_pass-found.result) c.count.ensures
+told : (c : After-room_verdict) → room_by c.tally_pass-t.result c.count.result ≡ room_by c.tally_pass-t.result (count_in c.args.actions.now)
+told c = ap (room_by c.tally_pass-t.result) c.count.ensures
 
 pub plans_of-resolved-requires-clause-few_slots : goal.plans_of-resolved-requires-clause-few_slots
 plans_of-resolved-requires-clause-few_slots c = omega (arith, c.colors-n.ensures, few_colors _ _ c.requires.judged.0)
 
-pub tally_pass-found-requires-clause-discards_in_room : goal.tally_pass-found-requires-clause-discards_in_room
-tally_pass-found-requires-clause-discards_in_room c =
+pub tally_pass-t-requires-clause-discards_in_room : goal.tally_pass-t-requires-clause-discards_in_room
+tally_pass-t-requires-clause-discards_in_room c =
     let a = c.args in
     held _ (pass_in a.pass.now) (bytes a.discards.now a.actions.now a.clears.now) c.requires.checkable
 
@@ -46,12 +46,12 @@ pub returns-in-Err : goal.returns-in-Err
 returns-in-Err c =
     let at = (goal.at.returns-in-Err c).After-room_verdict in
     let refused = c.refused_at.ensures ∙ c.in-Err.ensures.0 in
-    no_room _ _ (lent at) c.requires.checkable c.requires.judged.0 _ _ _ (planned at) c.tally_pass-found.ensures (refused ∙ told at) _ (ap is_accepted refused ∙ c.in-Err.ensures.1) c.refusal.ensures
+    no_room _ _ (lent at) c.requires.checkable c.requires.judged.0 _ _ _ (planned at) c.tally_pass-t.ensures (refused ∙ told at) _ (ap is_accepted refused ∙ c.in-Err.ensures.1) c.refusal.ensures
 
 pub record_pass-requires : goal.record_pass-requires
 record_pass-requires c =
     let at = (goal.at.record_pass-requires c).After-room_verdict in
-    recordable _ _ (lent at) c.requires.checkable c.requires.judged.0 _ _ _ (planned at) c.tally_pass-found.ensures (told at) _ c.in-Ok.ensures.0 c.in-Ok.ensures.1
+    recordable _ _ (lent at) c.requires.checkable c.requires.judged.0 _ _ _ (planned at) c.tally_pass-t.ensures (told at) c.in_default.ensures
 
 pub replies_of-replies-requires-clause-few_slots : goal.replies_of-replies-requires-clause-few_slots
 replies_of-replies-requires-clause-few_slots c = omega (arith, c.colors-n.ensures, few_colors _ _ c.requires.judged.0)
@@ -60,13 +60,13 @@ replies_of-replies-requires-clause-few_slots c = omega (arith, c.colors-n.ensure
 pub overflow_cast-result : goal.overflow_cast-result
 overflow_cast-result c =
     let at = (goal.at.overflow_cast-result c).After-room_verdict in
-    omega (arith, returned_few _ _ (lent at) c.requires.checkable c.requires.judged.0 _ _ _ (planned at) c.tally_pass-found.ensures (told at) _ c.in-Ok.ensures.0 c.in-Ok.ensures.1)
+    omega (arith, returned_few _ _ (lent at) c.requires.checkable c.requires.judged.0 _ _ _ (planned at) c.tally_pass-t.ensures (told at) c.in_default.ensures)
 
 pub returns : goal.returns
 returns c =
     let at = (goal.at.returns c).After-room_verdict in
     let S = session_in c.args.pass.now in
     let replied = c.replies_of-replies.ensures ∙ ap (λ xs. listed (map (attachment_reply S) xs)) (all_attached S _ _ c.colors-n.ensures) in
-    recorded _ _ (lent at) c.requires.checkable c.requires.judged.0 _ _ _ (planned at) c.tally_pass-found.ensures (told at) _ c.in-Ok.ensures.0 c.in-Ok.ensures.1
+    recorded _ _ (lent at) c.requires.checkable c.requires.judged.0 _ _ _ (planned at) c.tally_pass-t.ensures (told at) c.in_default.ensures
     _ _ _ _ _ c.requires.judged.1 c.depth_stencil_part-d.ensures c.record_pass.ensures replied
     (simp (c.flag-2.ensures, c.flag.ensures, c.is_depth_read_only.ensures, c.is_stencil_read_only.ensures, c.divergent.ensures))

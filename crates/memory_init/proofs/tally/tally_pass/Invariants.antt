@@ -5,4 +5,4 @@ use Rattle.memory_init.proofs.Counting.{Tallying}
 use Rattle.memory_init.proofs.tally.tally_pass.Given as goal
 
 abbrev pub invariant-loop-p : goal.invariant-loop-p
-invariant-loop-p l = Tallying (plans_in l.plans) (surfaces_in l.discards) l.p-index l.held l.tally.leaving l.tally.returned l.tally.added
+invariant-loop-p l = Tallying (plans_in l.plans) (surfaces_in l.discards) l.p-index l.held l.tally.fits l.tally.leaving l.tally.returned l.tally.added

@@ -23,14 +23,14 @@ plans_of-resolved-requires-clause-few_slots c = omega (arith, c.colors.ensures, 
 pub returns-in-Err : goal.returns-in-Err
 returns-in-Err c =
     let told = c.refused_at.ensures ∙ c.in-Err.ensures.0 in
-    no_room _ _ _ _ c.requires.summarizable c.requires.judged.0 _ _ _ (planned (goal.at.returns-in-Err c).After-room_verdict) c.tally_pass-found.ensures told _
+    no_room _ _ _ _ c.requires.summarizable c.requires.judged.0 _ _ _ (planned (goal.at.returns-in-Err c).After-room_verdict) c.tally_pass-t.ensures told _
     (ap is_accepted told ∙ c.in-Err.ensures.1) c.refused_summary.ensures
 
 pub record_discards-requires : goal.record_discards-requires
 record_discards-requires c =
-    lendable _ _ _ _ c.requires.summarizable c.requires.judged.0 _ _ _ (planned (goal.at.record_discards-requires c).After-room_verdict) c.tally_pass-found.ensures refl _ c.in-Ok.ensures.0 c.in-Ok.ensures.1
+    lendable _ _ _ _ c.requires.summarizable c.requires.judged.0 _ _ _ (planned (goal.at.record_discards-requires c).After-room_verdict) c.tally_pass-t.ensures refl c.in_default.ensures
 
 pub returns : goal.returns
 returns c =
-    recorded _ _ _ _ c.requires.summarizable c.requires.judged.0 _ _ _ (planned (goal.at.returns c).After-room_verdict) c.tally_pass-found.ensures refl _ c.in-Ok.ensures.0 c.in-Ok.ensures.1
+    recorded _ _ _ _ c.requires.summarizable c.requires.judged.0 _ _ _ (planned (goal.at.returns c).After-room_verdict) c.tally_pass-t.ensures refl c.in_default.ensures
     _ _ _ c.requires.judged.1 (search rules) c.record_discards.ensures (simp c.accepted.ensures)
