@@ -7,7 +7,6 @@
 ghost use Rattle.std.specs.Prelude.{◌≡◌, true, false, ◌&&◌, ◌-◌, ◌≤◌, length, ltb, if◌then◌else◌};
 ghost use Rattle.definition.specs.Sizes.{max_surfaces, surface_bytes, action_bytes, list_bytes};
 ghost use Rattle.definition.specs.Session.{session, surface_count};
-ghost use Rattle.definition.specs.Readable.{session_refusal};
 ghost use Rattle.definition.specs.Calls.{surface_valid, range_valid, surfaces_valid, actions_valid, bytes_valid, counts_valid, lent_valid};
 ghost use Rattle.lists.specs.Lists.{count_in, surfaces_in, actions_in, first_actions};
 ghost use Rattle.lists.specs.Lent.{bytes, lists_in};
@@ -25,6 +24,7 @@ use session::derived::{TEXTURE_D3, array_layers, slices_in};
 use session::header::texture_count;
 use session::surfaces::{is_part, surfaces_in};
 use session::texture_inside;
+use session_validation::ReadableSession;
 
 // ── a surface and a range of a texture
 
@@ -229,20 +229,19 @@ impl LentBuffers<'_> {
             & (count(self.clears) <= MAX_CLEARS)
     }
 
-    // They are valid for a session that is not refused, and long enough. Records are looked at where the counts are within the room. In line,
-    // the four slices need not go through memory.
+    // They are valid for the session, and long enough. Records are looked at where the counts are within the room. In line, the four slices
+    // need not go through memory.
     #[inline(always)]
-    pub fn is_valid(&self, s: &[u8]) -> bool
+    pub fn is_valid(&self, s: ReadableSession<'_>) -> bool
         requires long { let l = self.now in
             too_short (buffers l.discards.now l.actions.now l.clears.now l.status.now) ≡ false }
-        requires accepted { session_refusal s.now ≡ 0 }
         ensures { let l = self.now in
-            result ≡ lent_valid (session s.now) (held_in (buffers l.discards.now l.actions.now l.clears.now l.status.now)) }
+            result ≡ lent_valid (session s.entry.bytes.now) (held_in (buffers l.discards.now l.actions.now l.clears.now l.status.now)) }
     {
         if !self.counts_valid() {
             return false;
         }
-        let textures = Textures::new(s);
+        let textures = Textures::new(s.bytes);
         textures.surfaces_valid(self.discards)
             & textures.actions_valid(self.actions)
             & textures.surfaces_valid(self.clears)

@@ -21,7 +21,7 @@ unfolding lent_valid
 returns-then-not-counts_valid c = simp (sym c.counts_valid.ensures ∙ c.if-not-counts_valid.true)
 
 pub new-textures-requires : goal.new-textures-requires
-new-textures-requires c = rows_inside c.args.s.now (valid_of c.args.s.now c.requires.accepted)
+new-textures-requires c = rows_inside c.args.s.bytes.now (valid_of c.args.s.bytes.now c.args.s.readable)
 
 pub surfaces_valid-requires : goal.surfaces_valid-requires
 surfaces_valid-requires c =
@@ -42,7 +42,7 @@ surfaces_valid-requires-2 c =
     omega (arith, i)
 
 pub surface_count-requires : goal.surface_count-requires
-surface_count-requires c = simp c.new-textures.ensures ((valid_of c.args.s.now c.requires.accepted).surfaces _ (le_refl _))
+surface_count-requires c = simp c.new-textures.ensures ((valid_of c.args.s.bytes.now c.args.s.readable).surfaces _ (le_refl _))
 
 pub bytes_valid-requires : goal.bytes_valid-requires
 bytes_valid-requires c =
@@ -51,7 +51,7 @@ bytes_valid-requires c =
       arith,
       c.surface_count.ensures,
       ap (λ s. surface_count (session s)) c.new-textures.ensures,
-      (valid_of c.args.s.now c.requires.accepted).surfaces _ (le_refl _),
+      (valid_of c.args.s.bytes.now c.args.s.readable).surfaces _ (le_refl _),
       status_long (buffers l.discards.now l.actions.now l.clears.now l.status.now) c.requires.long,
     )
 
