@@ -194,17 +194,9 @@ fn first_views_valid(s: &[u8], textures: u32, n: u32) -> bool
     true
 }
 
-// A session that can be read.
-#[derive(Clone, Copy)]
-pub struct ReadableSession<'a> {
-    pub bytes: &'a [u8],
-    ghost readable: { Re.session_refusal bytes.now ≡ 0 },
-}
-
-// The session, where it can be read: 1 to 4. A table is read only where the header is valid, so the time is bounded.
-pub fn validate_session(s: &[u8]) -> Result<ReadableSession<'_>, Refusal>
-    ensures number { number_in result ≡ Re.session_refusal s.now }
-    ensures same { IfOk result (λ session. session.bytes.now ≡ s.now) }
+// Whether the session can be read: 1 to 4. A table is read only where the header is valid, so the time is bounded.
+fn session_reads(s: &[u8]) -> Result<(), Refusal>
+    ensures { number_in result ≡ Re.session_refusal s.now }
 {
     if !length_valid(s) {
         return Err(Refusal::WrongLength);
@@ -219,6 +211,23 @@ pub fn validate_session(s: &[u8]) -> Result<ReadableSession<'_>, Refusal>
     if !first_views_valid(s, textures, view_count(s)) {
         return Err(Refusal::InvalidView);
     }
+    Ok(())
+}
+
+// A session that can be read.
+#[derive(Clone, Copy)]
+pub struct ReadableSession<'a> {
+    pub bytes: &'a [u8],
+    ghost readable: { Re.session_refusal bytes.now ≡ 0 },
+}
+
+// The session, where it can be read, or its refusal, 1 to 4. In line, the two need not go through memory.
+#[inline(always)]
+pub fn validate_session(s: &[u8]) -> Result<ReadableSession<'_>, Refusal>
+    ensures number { number_in result ≡ Re.session_refusal s.now }
+    ensures same { IfOk result (λ session. session.bytes.now ≡ s.now) }
+{
+    session_reads(s)?;
     Ok(ReadableSession { bytes: s })
 }
 
