@@ -7,7 +7,6 @@
 ghost use Rattle.std.specs.Prelude.{◌≡◌, true, false, ◌&&◌, ◌-◌, ◌≤◌, length, ltb, if◌then◌else◌};
 ghost use Rattle.definition.specs.Sizes.{max_surfaces, surface_bytes, action_bytes, list_bytes};
 ghost use Rattle.definition.specs.Session.{session, surface_count};
-ghost use Rattle.definition.specs.Readable.{session_refusal};
 ghost use Rattle.definition.specs.Calls.{surface_valid, range_valid, surfaces_valid, actions_valid, bytes_valid, counts_valid, lent_valid};
 ghost use Rattle.lists.specs.Lists.{count_in, surfaces_in, actions_in, first_actions};
 ghost use Rattle.lists.specs.Lent.{bytes, lists_in};
@@ -25,6 +24,7 @@ use session::derived::{TEXTURE_D3, array_layers, slices_in};
 use session::header::texture_count;
 use session::surfaces::{is_part, surfaces_in};
 use session::texture_inside;
+use session_validation::ReadableSession;
 
 // ── a surface and a range of a texture
 
@@ -52,24 +52,24 @@ fn range_fits(t: Texture, x: Range) -> bool
 
 // ── the textures of a session
 
-// A session's bytes and the number of its textures, whose rows lie inside.
+// A session's bytes and the number of its textures, whose rows lie inside and which have no more surfaces than they may.
 #[derive(Clone, Copy)]
 struct Textures<'a> {
     bytes: &'a [u8],
     count: u32,
     ghost counted: { count ≡ (session bytes.now).texture_count },
     ghost inside: { RowsInside count bytes.now },
+    ghost few: { surface_count (session bytes.now) ≤ max_surfaces },
 }
 
 impl<'a> Textures<'a> {
-    // Those of a session whose texture rows lie inside.
-    fn new(s: &'a [u8]) -> Self
-        requires { RowsInside (session s.now).texture_count s.now }
-        ensures { result.bytes.now ≡ s.now }
+    // Those of a session that can be read.
+    fn new(s: ReadableSession<'a>) -> Self
+        ensures { result.bytes.now ≡ s.entry.bytes.now }
     {
         Textures {
-            bytes: s,
-            count: texture_count(s),
+            bytes: s.bytes,
+            count: texture_count(s.bytes),
         }
     }
 
@@ -161,10 +161,9 @@ impl<'a> Textures<'a> {
         true
     }
 
-    // How many surfaces the session has, where they are no more than it may have. The count of crate session tests every row and stops past the
-    // most: of one texture it takes half as many instructions as all of `is_valid`.
+    // How many surfaces the session has. The count of crate session tests every row and stops past the most: of one texture it takes half as
+    // many instructions as all of `is_valid`.
     fn surface_count(&self) -> usize
-        requires { surface_count (session self.now.bytes.now) ≤ max_surfaces }
         ensures { result ≡ surface_count (session self.now.bytes.now) }
     {
         let mut sum = 0;
@@ -175,10 +174,9 @@ impl<'a> Textures<'a> {
     }
 }
 
-// The session, whose texture rows lie inside, has the surface.
-pub fn surface_valid(s: &[u8], x: Surface) -> bool
-    requires { RowsInside (session s.now).texture_count s.now }
-    ensures { result ≡ surface_valid (session s.now) x }
+// The session has the surface.
+pub fn surface_valid(s: ReadableSession<'_>, x: Surface) -> bool
+    ensures { result ≡ surface_valid (session s.entry.bytes.now) x }
 {
     Textures::new(s).has(x)
 }
@@ -229,15 +227,14 @@ impl LentBuffers<'_> {
             & (count(self.clears) <= MAX_CLEARS)
     }
 
-    // They are valid for a session that is not refused, and long enough. Records are looked at where the counts are within the room. In line,
-    // the four slices need not go through memory.
+    // They are valid for the session, and long enough. Records are looked at where the counts are within the room. In line, the four slices
+    // need not go through memory.
     #[inline(always)]
-    pub fn is_valid(&self, s: &[u8]) -> bool
+    pub fn is_valid(&self, s: ReadableSession<'_>) -> bool
         requires long { let l = self.now in
             too_short (buffers l.discards.now l.actions.now l.clears.now l.status.now) ≡ false }
-        requires accepted { session_refusal s.now ≡ 0 }
         ensures { let l = self.now in
-            result ≡ lent_valid (session s.now) (held_in (buffers l.discards.now l.actions.now l.clears.now l.status.now)) }
+            result ≡ lent_valid (session s.entry.bytes.now) (held_in (buffers l.discards.now l.actions.now l.clears.now l.status.now)) }
     {
         if !self.counts_valid() {
             return false;

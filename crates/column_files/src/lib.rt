@@ -4,7 +4,6 @@
 
 ghost use Rattle.std.specs.Prelude.{◌≡◌, true, false, List, ℕ, ◌≤◌, length, take, MatchResult, IfOk, IfSome};
 ghost use Rattle.definition.specs.Sizes.{longest_session};
-ghost use Rattle.definition.specs.Readable.{session_refusal};
 ghost use Rattle.report.specs.Held.{Holds};
 ghost use Rattle.report.specs.Printed.{Printed};
 ghost use Rattle.streams.specs.Answered.{Answered};
@@ -14,23 +13,24 @@ use columns::{Way, rearrange};
 use report::{File, print_file};
 use session::header::pass_count;
 use session::pass_start;
-use session_validation::validate_session;
+use session_validation::{ReadableSession, validate_session};
 use std::io;
 use std::io::Read;
 use streams::{BUFFER_BYTES, read_file};
 
-// A readable session, rearranged: its length.
+// A session, rearranged: its length.
 #[tactic(auto, using(crate::proofs::Theorem::start_inside, crate::proofs::Written::session_fits))]
-fn put_rearranged(way: Way, session: &[u8], out: &mut [u8]) -> usize
-    requires { (session_refusal session.now ≡ 0) × (longest_session ≤ length out.old) }
-    ensures { Printed out.old (rearranged way session.now) out.new result }
+fn put_rearranged(way: Way, session: ReadableSession<'_>, out: &mut [u8]) -> usize
+    requires { longest_session ≤ length out.old }
+    ensures { Printed out.old (rearranged way session.entry.bytes.now) out.new result }
 {
-    let start = pass_start(session);
-    let (front, passes) = session.split_at(start);
+    let s = session.bytes;
+    let start = pass_start(s);
+    let (front, passes) = s.split_at(start);
     out[..start].copy_from_slice(front);
     // A readable session is not refused.
-    let _ = rearrange(way, pass_count(session), passes, &mut out[start..]);
-    session.len()
+    let _ = rearrange(way, pass_count(s), passes, &mut out[start..]);
+    s.len()
 }
 
 // What is written for a file, by what is held of it.
@@ -42,7 +42,7 @@ pub fn write_file(way: Way, file: File<'_>, out: &mut [u8]) -> usize
         (whole : List ℕ) → Holds held.head.now held.bytes whole → take result out.new ≡ written way whole }
 {
     match validate_session(file.head) {
-        Ok(()) => put_rearranged(way, file.head, out),
+        Ok(session) => put_rearranged(way, session, out),
         Err(_) => print_file(file, out),
     }
 }

@@ -32,11 +32,11 @@ use submission::submit;
 use whole_session::session_rows;
 
 // 0 for what is accepted, or the refusal's number.
-fn number(answer: Result<(), Refusal>) -> u32
+fn number<T: Copy>(answer: Result<T, Refusal>) -> u32
     ensures { result ≡ number_in answer }
 {
     match answer {
-        Ok(()) => 0,
+        Ok(_) => 0,
         Err(refusal) => refusal.number(),
     }
 }
@@ -52,8 +52,8 @@ pub fn deskcheck_session_refusal(session: &[u8]) -> u32
 fn status_index(session: &[u8], x: Surface) -> Result<u32, Refusal>
     ensures { index_in result ≡ status_index session.now x }
 {
-    validate_session(session)?;
-    if !surface_valid(session, x) {
+    let readable = validate_session(session)?;
+    if !surface_valid(readable, x) {
         return Err(Refusal::InvalidLent);
     }
     Ok(index_of(session, x))
@@ -104,8 +104,8 @@ fn opened(
     if lent.is_short() {
         return Err(Refusal::InvalidLent);
     }
-    validate_session(session)?;
-    if !lent.is_valid(session) {
+    let readable = validate_session(session)?;
+    if !lent.is_valid(readable) {
         return Err(Refusal::InvalidLent);
     }
     Ok(())
@@ -204,8 +204,7 @@ fn written(session: &[u8], rows: &mut [u8]) -> Result<(), Refusal>
     if rows.len() < ROWS_BYTES {
         return Err(Refusal::InvalidLent);
     }
-    validate_session(session)?;
-    session_rows(session, rows);
+    session_rows(validate_session(session)?, rows);
     Ok(())
 }
 

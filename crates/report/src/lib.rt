@@ -7,7 +7,6 @@ mod oversize;
 mod text;
 
 ghost use Rattle.std.specs.Prelude.{◌≡◌, List, ℕ, ◌+◌, ◌*◌, ◌≤◌, length, take};
-ghost use Rattle.definition.specs.Readable.{session_refusal};
 ghost use Rattle.definition.specs.Refusals.{number_of};
 ghost use Rattle.definition.specs.Program.{deskcheck};
 ghost use Rattle.report.specs.Text.{line_bytes, lines_text, printed_bytes, refusal_text, refusal_bytes};
@@ -21,18 +20,17 @@ use definition::sizes::{LONGEST_SESSION, MAX_PASSES};
 pub use file::File;
 use oversize::oversize_refusal;
 pub use oversize::past_length_field;
-use session_validation::validate_session;
+use session_validation::{ReadableSession, validate_session};
 use text::{LINE_BYTES, Text};
 use whole_session::Walk;
 
 // Bytes that the text for every file fits in.
 pub const PRINTED_BYTES: usize = LINE_BYTES * (MAX_PASSES as usize);
 
-// The lines of a readable session: each pass is judged, and its line is written.
-fn push_lines(s: &[u8], text: &mut Text<'_>)
-    requires readable { session_refusal s.now ≡ 0 }
+// The lines of a session: each pass is judged, and its line is written.
+fn push_lines(s: ReadableSession<'_>, text: &mut Text<'_>)
     requires room { text.old.end + printed_bytes ≤ length text.old.buffer.now }
-    ensures appended { Appended text.old (lines_text (deskcheck s.now)) text.new }
+    ensures appended { Appended text.old (lines_text (deskcheck s.entry.bytes.now)) text.new }
     ensures a_line_each { text.new.end ≤ text.old.end + printed_bytes }
 {
     for row in Walk::new(s) {
@@ -40,11 +38,10 @@ fn push_lines(s: &[u8], text: &mut Text<'_>)
     }
 }
 
-// The lines of a readable session, at the front.
-fn print_lines(session: &[u8], out: &mut [u8]) -> usize
-    requires readable { session_refusal session.now ≡ 0 }
-    requires room { printed_bytes ≤ length out.old }
-    ensures { Printed out.old (output session.now) out.new result }
+// The lines of a session, at the front.
+fn print_lines(session: ReadableSession<'_>, out: &mut [u8]) -> usize
+    requires { printed_bytes ≤ length out.old }
+    ensures { Printed out.old (output session.entry.bytes.now) out.new result }
 {
     let mut text = Text {
         buffer: out,
@@ -74,7 +71,7 @@ fn print_session(session: &[u8], out: &mut [u8]) -> usize
     ensures { Printed out.old (output session.now) out.new result }
 {
     match validate_session(session) {
-        Ok(()) => print_lines(session, out),
+        Ok(readable) => print_lines(readable, out),
         Err(refusal) => print_refusal(refusal, out),
     }
 }

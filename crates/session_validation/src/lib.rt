@@ -2,7 +2,7 @@
 // answer, no public function has a `requires`, and a session is read once, in time linear in its length.
 #![tactic(auto)]
 
-ghost use Rattle.std.specs.Prelude.{◌≡◌};
+ghost use Rattle.std.specs.Prelude.{◌≡◌, IfOk};
 ghost use Rattle.definition.specs.Session as Se;
 ghost use Rattle.definition.specs.Session.{session};
 ghost use Rattle.definition.specs.Readable as Re;
@@ -195,7 +195,7 @@ fn first_views_valid(s: &[u8], textures: u32, n: u32) -> bool
 }
 
 // Whether the session can be read: 1 to 4. A table is read only where the header is valid, so the time is bounded.
-pub fn validate_session(s: &[u8]) -> Result<(), Refusal>
+fn session_reads(s: &[u8]) -> Result<(), Refusal>
     ensures { number_in result ≡ Re.session_refusal s.now }
 {
     if !length_valid(s) {
@@ -212,6 +212,23 @@ pub fn validate_session(s: &[u8]) -> Result<(), Refusal>
         return Err(Refusal::InvalidView);
     }
     Ok(())
+}
+
+// A session that can be read.
+#[derive(Clone, Copy)]
+pub struct ReadableSession<'a> {
+    pub bytes: &'a [u8],
+    ghost readable: { Re.session_refusal bytes.now ≡ 0 },
+}
+
+// The session, where it can be read, or its refusal, 1 to 4. In line, the two need not go through memory.
+#[inline(always)]
+pub fn validate_session(s: &[u8]) -> Result<ReadableSession<'_>, Refusal>
+    ensures number { number_in result ≡ Re.session_refusal s.now }
+    ensures same { IfOk result (λ session. session.bytes.now ≡ s.now) }
+{
+    session_reads(s)?;
+    Ok(ReadableSession { bytes: s })
 }
 
 // Whether a channel's fields have such values.

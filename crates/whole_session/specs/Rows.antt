@@ -2,7 +2,6 @@
 use Rattle.std.specs.Prelude.{ℕ, zero, suc, ◌+◌, ◌-◌, ◌*◌, ◌≤◌, ◌≡◌, List, [], ◌∷◌, ◌++◌}
 use Rattle.definition.specs.Sizes.{max_actions, row_numbers, row_bytes}
 use Rattle.definition.specs.Session.{Session, session}
-use Rattle.definition.specs.Readable.{session_refusal}
 use Rattle.definition.specs.MemoryInit.{Lists}
 use Rattle.definition.specs.Pass.{check_pass}
 use Rattle.definition.specs.Calls.{no_entries}
@@ -40,9 +39,8 @@ pub record Advances (S : Session) (passes k : ℕ) (r : Row) (d : List ℕ) : Ty
   pub row : r.numbers ≡ row_at S passes k
   pub next : Reached S passes (k + 1) d r.actions
 
--- A walk of a readable session, before pass k of so many.
+-- A walk of a session, before pass k of so many.
 pub record Walks (s : List ℕ) (passes k : ℕ) (d : List ℕ) (actions : ℕ) : Type 0 where
-  pub readable : session_refusal s ≡ 0
   pub within : k ≤ passes
   pub reached : Reached (session s) passes k d actions
 

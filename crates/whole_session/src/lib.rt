@@ -9,7 +9,6 @@ ghost use Rattle.std.specs.Prelude.{◌≡◌, ℕ, List, ◌+◌, ◌-◌, ◌*
 ghost use Rattle.std.specs.Iterator.{YieldsFirst, item_count};
 ghost use Rattle.definition.specs.Sizes.{row_bytes, rows_bytes};
 ghost use Rattle.definition.specs.Session.{session};
-ghost use Rattle.definition.specs.Readable.{session_refusal};
 ghost use Rattle.definition.specs.Program.{ends_buffer, deskcheck};
 ghost use Rattle.session.specs.Rows.{pass_in};
 ghost use Rattle.whole_session.specs.Rows.{lines_from, rows_in, Reached, Advances, Walks};
@@ -19,6 +18,7 @@ use lists::{count, set_count};
 use render_pass::summary::summarize;
 use session::header::pass_count;
 use session::{PassRow, pass_row};
+use session_validation::ReadableSession;
 use std::marker::Model;
 use words::write_numbers;
 
@@ -37,13 +37,13 @@ fn ends_buffer(pass: &PassRow, k: u32, passes: u32) -> bool
     (pass.ends() == 1) | (k + 1 == passes)
 }
 
-// The row of pass k of so many of a readable session; the discards and the actions are then those from which the next pass starts.
-fn next_row(s: &[u8], k: u32, passes: u32, discards: &mut [u8], actions: usize) -> Row
-    requires there { (session_refusal s.now ≡ 0) × (k < passes) }
-    requires reached { Reached (session s.now) passes k discards.old actions }
-    ensures { Advances (session s.now) passes k result discards.new }
+// The row of pass k of so many of a session; the discards and the actions are then those from which the next pass starts.
+fn next_row(s: ReadableSession<'_>, k: u32, passes: u32, discards: &mut [u8], actions: usize) -> Row
+    requires there { k < passes }
+    requires reached { Reached (session s.bytes.now) passes k discards.old actions }
+    ensures { Advances (session s.entry.bytes.now) passes k result discards.new }
 {
-    let pass = pass_row(s, k);
+    let pass = pass_row(s.bytes, k);
     let said = summarize(&pass, discards, actions);
     let v = said.verdict;
     let numbers: [u32; ROW_NUMBERS] = [
@@ -68,7 +68,7 @@ fn next_row(s: &[u8], k: u32, passes: u32, discards: &mut [u8], actions: usize) 
 // A walk over the passes of a readable session, from fresh lists: it gives the row of each.
 #[derive(Drop)]
 pub struct Walk<'a> {
-    session: &'a [u8],
+    session: ReadableSession<'a>,
     passes: u32,
 
     // The next pass, and the discards and the number of actions that it starts from.
@@ -80,20 +80,19 @@ pub struct Walk<'a> {
 impl<'a> Model for Walk<'a> {
     ghost Value = { List (List ℕ) };
 
-    ghost view = { λ w. lines_from w.session.now w.passes w.k };
+    ghost view = { λ w. lines_from w.session.bytes.now w.passes w.k };
 
-    ghost invariant = { λ w. Walks w.session.now w.passes w.k w.discards w.actions };
+    ghost invariant = { λ w. Walks w.session.bytes.now w.passes w.k w.discards w.actions };
 }
 
 impl<'a> Walk<'a> {
     // Before the first pass.
-    pub fn new(session: &'a [u8]) -> Self
-        requires { session_refusal session.now ≡ 0 }
-        ensures { result ≡ deskcheck session.now }
+    pub fn new(session: ReadableSession<'a>) -> Self
+        ensures { result ≡ deskcheck session.entry.bytes.now }
     {
         Walk {
             session,
-            passes: pass_count(session),
+            passes: pass_count(session.bytes),
             k: 0,
             discards: [0; DISCARDS_BYTES],
             actions: 0,
@@ -127,10 +126,11 @@ impl<'a> Iterator for Walk<'a> {
 }
 
 // The rows of a readable session as bytes; the bytes past them stay.
-pub fn session_rows(s: &[u8], rows: &mut [u8])
-    requires { (session_refusal s.now ≡ 0) × (rows_bytes ≤ length rows.old) }
-    ensures written { rows_in rows.new (session s.now).pass_count ≡ deskcheck s.now }
-    ensures behind { let end = row_bytes * (session s.now).pass_count in
+pub fn session_rows(s: ReadableSession<'_>, rows: &mut [u8])
+    requires { rows_bytes ≤ length rows.old }
+    ensures written { let b = s.entry.bytes.now in
+        rows_in rows.new (session b).pass_count ≡ deskcheck b }
+    ensures behind { let end = row_bytes * (session s.entry.bytes.now).pass_count in
         drop end rows.new ≡ drop end rows.old }
 {
     let mut at: usize = 0;

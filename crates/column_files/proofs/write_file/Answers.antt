@@ -10,8 +10,8 @@ use Rattle.column_files.proofs.write_file.Goals as goal
 
 pub returns-in-Ok : goal.returns-in-Ok
 returns-in-Ok c =
-    let readable : session_refusal c.args.file.head.now ≡ 0 = sym c.validate_session.ensures ∙ ap number_in c.in-Ok.is in
-    let text = c.put_rearranged.ensures in
+    let readable : session_refusal c.args.file.head.now ≡ 0 = sym c.validate_session.ensures.number ∙ ap number_in c.in-Ok.is in
+    let text = simp (simp c.in-Ok.is at c.validate_session.ensures.same) at c.put_rearranged.ensures in
     record {
       printed = printed_as (readable_held c.args.way _ _ readable) text;
       defined = λ whole holds. text.front ∙ readable_file c.args.way holds c.args.file.enough readable;
@@ -19,7 +19,7 @@ returns-in-Ok c =
 
 pub returns-in-Err : goal.returns-in-Err
 returns-in-Err c =
-    let refused : session_refusal c.args.file.head.now ≢ 0 = λ z. numbered _ (sym (ap number_in c.in-Err.is) ∙ c.validate_session.ensures ∙ z) in
+    let refused : session_refusal c.args.file.head.now ≢ 0 = λ z. numbered _ (sym (ap number_in c.in-Err.is) ∙ c.validate_session.ensures.number ∙ z) in
     let text = c.print_file.ensures in
     record {
       printed = printed_as (refused_held c.args.way _ _ refused) text.printed;

@@ -6,5 +6,6 @@ use Rattle.desk.proofs.written.Goals as goal
 
 pub returns : goal.returns
 returns c =
-    let rows = c.session_rows.ensures in
-    whole_read _ _ _ (omega (arith, c.if-rows-lt-ROWS_BYTES.false)) (sym c.in_ok-validate_session.ensures) rows.written rows.behind
+    let read = c.in_ok-validate_session.ensures in
+    let rows = simp read.same at c.session_rows.ensures in
+    whole_read _ _ _ (omega (arith, c.if-rows-lt-ROWS_BYTES.false)) (sym read.number) rows.written rows.behind

@@ -8,4 +8,4 @@ use Rattle.report.proofs.print_lines.Goals as goal
 
 pub returns : goal.returns
 returns c =
-    printed_left (appended_as (printed_lines _ c.requires.readable) c.push_lines.ensures.appended) refl (omega arith) (search rules)
+    printed_left (appended_as (printed_lines _ c.args.session.readable) c.push_lines.ensures.appended) refl (omega arith) (search rules)

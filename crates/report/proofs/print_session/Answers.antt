@@ -9,4 +9,4 @@ use Rattle.report.proofs.print_session.Goals as goal
 
 pub returns-in-Err : goal.returns-in-Err
 returns-in-Err c =
-    printed_as (printed_refusal _ _ (sym (ap number_in c.in-Err.is) ∙ c.validate_session.ensures) (numbered c.in-Err.refusal)) c.print_refusal.ensures.printed
+    printed_as (printed_refusal _ _ (sym (ap number_in c.in-Err.is) ∙ c.validate_session.ensures.number) (numbered c.in-Err.refusal)) c.print_refusal.ensures.printed

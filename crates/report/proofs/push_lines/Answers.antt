@@ -21,14 +21,14 @@ loop-row-init c = record {
 pub push_line-requires : goal.push_line-requires
 push_line-requires c =
     let l = c.loop-row in
-    let there = row_there c.args.s.now l.yielded c.requires.readable l.invariant.so_far c.in-Some.ensures.steps in
-    omega (arith, there, l.invariant.room, l.invariant.written.same_length, c.requires.room, (valid_of c.args.s.now c.requires.readable).passes)
+    let there = row_there c.args.s.bytes.now l.yielded c.args.s.readable l.invariant.so_far c.in-Some.ensures.steps in
+    omega (arith, there, l.invariant.room, l.invariant.written.same_length, c.requires.room, (valid_of c.args.s.bytes.now c.args.s.readable).passes)
 
 pub loop-row-preserved : goal.loop-row-preserved
 loop-row-preserved c =
     let l = c.loop-row in
     record {
-      so_far = row_given c.args.s.now l.yielded c.requires.readable l.invariant.so_far c.in-Some.ensures.steps;
+      so_far = row_given c.args.s.bytes.now l.yielded c.args.s.readable l.invariant.so_far c.in-Some.ensures.steps;
       written = appended_as (sym (lines_more _ _)) (appended_then l.invariant.written c.push_line.ensures.appended);
       room = omega (arith, l.invariant.room, c.push_line.ensures.at_most_a_line, length-append l.yielded (c.in-Some.row ∷ []));
     }
@@ -36,8 +36,8 @@ loop-row-preserved c =
 pub returns : goal.returns
 returns c =
     let l = c.loop-row in
-    let all = rows_given c.args.s.now l.yielded l.invariant.so_far c.in-None.ensures.steps.0 in
+    let all = rows_given c.args.s.bytes.now l.yielded l.invariant.so_far c.in-None.ensures.steps.0 in
     record {
       appended = appended_as (ap lines_text all) l.invariant.written;
-      a_line_each = omega (arith, l.invariant.room, ap length all, deskcheck_count c.args.s.now c.requires.readable, (valid_of c.args.s.now c.requires.readable).passes);
+      a_line_each = omega (arith, l.invariant.room, ap length all, deskcheck_count c.args.s.bytes.now c.args.s.readable, (valid_of c.args.s.bytes.now c.args.s.readable).passes);
     }

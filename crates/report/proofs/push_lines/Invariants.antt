@@ -10,7 +10,7 @@ use Rattle.report.proofs.push_lines.Given as goal
 
 abbrev pub invariant-loop-row : goal.invariant-loop-row
 invariant-loop-row l = record {
-  so_far : l.yielded ++ l.row-iterator ≡ deskcheck l.s;
+  so_far : l.yielded ++ l.row-iterator ≡ deskcheck l.s.bytes.now;
   written : Appended l.initial.text (lines_text l.yielded) l.text;
   room : l.text.end ≤ l.initial.text.end + line_bytes * length l.yielded;
 }

@@ -7,7 +7,7 @@ use Rattle.whole_session.proofs.next_row.Goals as goal
 
 pub summarize-said-requires : goal.summarize-said-requires
 summarize-said-requires c =
-    let read = tested _ c.requires.there.0 in
+    let read = tested _ c.args.s.readable in
     rw c.pass_row-pass.ensures.session
     (record { textures = read.textures; views = read.views; held = c.requires.reached.held; actions = c.requires.reached.few })
 

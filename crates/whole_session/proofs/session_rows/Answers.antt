@@ -19,14 +19,14 @@ pub write_numbers-requires : goal.write_numbers-requires
 write_numbers-requires c =
     let l = c.loop-row in
     let nine : length c.in-Some.row ≡ row_numbers = search rules in
-    let there = row_there c.args.s.now l.yielded c.requires.0 l.invariant.0 c.in-Some.ensures.steps in
-    omega (arith, nine, there, l.invariant.1, l.invariant.4, c.requires.1, (valid_of c.args.s.now c.requires.0).passes)
+    let there = row_there c.args.s.bytes.now l.yielded c.args.s.readable l.invariant.0 c.in-Some.ensures.steps in
+    omega (arith, nine, there, l.invariant.1, l.invariant.4, c.requires, (valid_of c.args.s.bytes.now c.args.s.readable).passes)
 
 pub overflow_add-at : goal.overflow_add-at
 overflow_add-at c =
     let l = c.loop-row in
-    let there = row_there c.args.s.now l.yielded c.requires.0 l.invariant.0 c.in-Some.ensures.steps in
-    omega (arith, there, l.invariant.1, (valid_of c.args.s.now c.requires.0).passes)
+    let there = row_there c.args.s.bytes.now l.yielded c.args.s.readable l.invariant.0 c.in-Some.ensures.steps in
+    omega (arith, there, l.invariant.1, (valid_of c.args.s.bytes.now c.args.s.readable).passes)
 
 pub loop-row-preserved : goal.loop-row-preserved
 loop-row-preserved c =
@@ -36,15 +36,15 @@ loop-row-preserved c =
     let nine : length x ≡ row_numbers = search rules in
     let more : length (l.yielded ++ (x ∷ [])) ≡ length l.yielded + 1 = length-append l.yielded (x ∷ []) in
     let put = c.write_numbers.ensures.written ∙ ap₂ (λ q n. put_numbers l.rows q x n) l.invariant.1 nine in (
-      row_given c.args.s.now l.yielded c.requires.0 l.invariant.0 c.in-Some.ensures.steps,
+      row_given c.args.s.bytes.now l.yielded c.args.s.readable l.invariant.0 c.in-Some.ensures.steps,
       omega (arith, l.invariant.1, more),
       ap (rows_in b) more ∙ row_put _ _ _ _ put _ l.invariant.2 (ap₂ (numbers_at b) (sym l.invariant.1) (sym nine) ∙ c.write_numbers.ensures.read_back),
-      rest_stays _ _ _ _ put _ _ (row_there c.args.s.now l.yielded c.requires.0 l.invariant.0 c.in-Some.ensures.steps) l.invariant.3,
+      rest_stays _ _ _ _ put _ _ (row_there c.args.s.bytes.now l.yielded c.args.s.readable l.invariant.0 c.in-Some.ensures.steps) l.invariant.3,
       c.write_numbers.auto.b ∙ l.invariant.4,
     )
 
 pub returns-clause-written : goal.returns-clause-written
 returns-clause-written c =
     let l = c.loop-row in
-    let all = rows_given c.args.s.now l.yielded l.invariant.0 c.in-None.ensures.steps.0 in
-    ap (rows_in l.rows) (sym (ap length all ∙ deskcheck_count c.args.s.now c.requires.0)) ∙ l.invariant.2 ∙ all
+    let all = rows_given c.args.s.bytes.now l.yielded l.invariant.0 c.in-None.ensures.steps.0 in
+    ap (rows_in l.rows) (sym (ap length all ∙ deskcheck_count c.args.s.bytes.now c.args.s.readable)) ∙ l.invariant.2 ∙ all

@@ -10,6 +10,6 @@ use Rattle.whole_session.specs.Rows.{rows_in}
 use Rattle.whole_session.proofs.session_rows.Given as goal
 
 abbrev pub invariant-loop-row : goal.invariant-loop-row
-invariant-loop-row l = (l.yielded ++ l.row-iterator ≡ deskcheck l.s) × (l.at ≡ row_bytes * length l.yielded) × (rows_in l.rows (length l.yielded) ≡ l.yielded)
-    × (drop (row_bytes * (session l.s).pass_count) l.rows ≡ drop (row_bytes * (session l.s).pass_count) l.initial.rows)
+invariant-loop-row l = (l.yielded ++ l.row-iterator ≡ deskcheck l.s.bytes.now) × (l.at ≡ row_bytes * length l.yielded) × (rows_in l.rows (length l.yielded) ≡ l.yielded)
+    × (drop (row_bytes * (session l.s.bytes.now).pass_count) l.rows ≡ drop (row_bytes * (session l.s.bytes.now).pass_count) l.initial.rows)
     × (length l.rows ≡ length l.initial.rows)

@@ -1,14 +1,10 @@
 -- A count out of range decides; otherwise each test is what its call promises.
-use mathlib.Core.Path.{◌≡◌, sym, ap, ◌∙◌}
+use mathlib.Core.Path.{◌≡◌, sym, ◌∙◌}
 use mathlib.Core.Bool.{Bool, true, false}
-use native.Mathlib.Nat.{le_refl}
 use native.Mathlib.Omega.{arith}
-use Rattle.definition.specs.Session.{session, surface_count}
 use Rattle.definition.specs.Calls.{counts_valid, lent_valid}
-use Rattle.session_validation.proofs.Valid.{valid_of}
 use Rattle.lists.specs.Lent.{lists_in}
 use Rattle.buffer_validation.specs.Buffers.{Buffers, buffers, RecordsInside, too_short}
-use Rattle.buffer_validation.proofs.Fits.{rows_inside}
 use Rattle.buffer_validation.proofs.Lent.{long_of, status_long, records_inside, counts_fit}
 use Rattle.buffer_validation.proofs.LentBuffers.is_valid.Goals as goal
 
@@ -19,9 +15,6 @@ inside b h e v = records_inside b.lists (long_of b h) (counts_fit (lists_in b.li
 pub returns-then-not-counts_valid : goal.returns-then-not-counts_valid
 unfolding lent_valid
 returns-then-not-counts_valid c = simp (sym c.counts_valid.ensures ∙ c.if-not-counts_valid.true)
-
-pub new-textures-requires : goal.new-textures-requires
-new-textures-requires c = rows_inside c.args.s.now (valid_of c.args.s.now c.requires.accepted)
 
 pub surfaces_valid-requires : goal.surfaces_valid-requires
 surfaces_valid-requires c =
@@ -41,17 +34,13 @@ surfaces_valid-requires-2 c =
     let i = inside (buffers l.discards.now l.actions.now l.clears.now l.status.now) c.requires.long c.counts_valid.ensures c.if-not-counts_valid.false in
     omega (arith, i)
 
-pub surface_count-requires : goal.surface_count-requires
-surface_count-requires c = simp c.new-textures.ensures ((valid_of c.args.s.now c.requires.accepted).surfaces _ (le_refl _))
-
 pub bytes_valid-requires : goal.bytes_valid-requires
 bytes_valid-requires c =
     let l = c.args.self.now in
     omega (
       arith,
       c.surface_count.ensures,
-      ap (λ s. surface_count (session s)) c.new-textures.ensures,
-      (valid_of c.args.s.now c.requires.accepted).surfaces _ (le_refl _),
+      c.new-textures.result.few,
       status_long (buffers l.discards.now l.actions.now l.clears.now l.status.now) c.requires.long,
     )
 

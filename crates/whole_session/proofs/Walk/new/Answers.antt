@@ -4,7 +4,7 @@ use Rattle.whole_session.proofs.Rows.{reached_fresh, lines_first}
 use Rattle.whole_session.proofs.Walk.new.Goals as goal
 
 pub invariant_of-result : goal.invariant_of-result
-invariant_of-result c = record { readable = c.requires; within = omega arith; reached = reached_fresh _ _ }
+invariant_of-result c = record { within = omega arith; reached = reached_fresh _ _ }
 
 pub returns : goal.returns
-returns c = lines_first _ _ c.requires c.pass_count.ensures
+returns c = lines_first _ _ c.args.session.readable c.pass_count.ensures

@@ -2,7 +2,7 @@
 use mathlib.Core.Path.{refl, sym, ◌∙◌}
 use Rattle.session_validation.proofs.Refusal.{refusal_of, refused_by}
 use Rattle.session_validation.proofs.Valid.{views_inside, textures_inside}
-use Rattle.session_validation.proofs.validate_session.Goals as goal
+use Rattle.session_validation.proofs.session_reads.Goals as goal
 
 pub returns-then-not-length_valid : goal.returns-then-not-length_valid
 unfolding refusal_of
