@@ -1,5 +1,5 @@
 -- A readable session is held whole, and is rearranged; what `deskcheck` prints for any other is its refusal.
-use mathlib.Core.Path.{◌≡◌, sym, ap, ◌∙◌}
+use mathlib.Core.Path.{sym, ap, ◌∙◌}
 use mathlib.Core.Logic.{◌≢◌}
 use Rattle.definition.specs.Readable.{session_refusal}
 use Rattle.definition.specs.Refusals.{number_in}
@@ -10,8 +10,9 @@ use Rattle.column_files.proofs.write_file.Goals as goal
 
 pub returns-in-Ok : goal.returns-in-Ok
 returns-in-Ok c =
-    let readable : session_refusal c.args.file.head.now ≡ 0 = sym c.validate_session.ensures.number ∙ ap number_in c.in-Ok.is in
-    let text = simp (simp c.in-Ok.is at c.validate_session.ensures.same) at c.put_rearranged.ensures in
+    let same = simp c.in-Ok.is at c.validate_session.ensures.same in
+    let readable = simp same at c.in-Ok.session.readable in
+    let text = simp same at c.put_rearranged.ensures in
     record {
       printed = printed_as (readable_held c.args.way _ _ readable) text;
       defined = λ whole holds. text.front ∙ readable_file c.args.way holds c.args.file.enough readable;
