@@ -4,7 +4,7 @@ use mathlib.Core.Bool.{Bool, true, false}
 use native.Mathlib.Omega.{arith}
 use Rattle.definition.specs.Calls.{counts_valid, lent_valid}
 use Rattle.lists.specs.Lent.{lists_in}
-use Rattle.buffer_validation.specs.Buffers.{Buffers, buffers, RecordsInside, too_short}
+use Rattle.buffer_validation.specs.Buffers.{Buffers, RecordsInside, too_short}
 use Rattle.buffer_validation.proofs.Lent.{long_of, status_long, records_inside, counts_fit}
 use Rattle.buffer_validation.proofs.LentBuffers.is_valid.Goals as goal
 
@@ -17,32 +17,16 @@ unfolding lent_valid
 returns-then-not-counts_valid c = simp (sym c.counts_valid.ensures ∙ c.if-not-counts_valid.true)
 
 pub surfaces_valid-requires : goal.surfaces_valid-requires
-surfaces_valid-requires c =
-    let l = c.args.self.now in
-    let i = inside (buffers l.discards.now l.actions.now l.clears.now l.status.now) c.requires.long c.counts_valid.ensures c.if-not-counts_valid.false in
-    omega (arith, i)
+surfaces_valid-requires c = omega (arith, inside _ c.requires.long c.counts_valid.ensures c.if-not-counts_valid.false)
 
 pub actions_valid-requires : goal.actions_valid-requires
-actions_valid-requires c =
-    let l = c.args.self.now in
-    let i = inside (buffers l.discards.now l.actions.now l.clears.now l.status.now) c.requires.long c.counts_valid.ensures c.if-not-counts_valid.false in
-    omega (arith, i)
+actions_valid-requires c = omega (arith, inside _ c.requires.long c.counts_valid.ensures c.if-not-counts_valid.false)
 
 pub surfaces_valid-requires-2 : goal.surfaces_valid-requires-2
-surfaces_valid-requires-2 c =
-    let l = c.args.self.now in
-    let i = inside (buffers l.discards.now l.actions.now l.clears.now l.status.now) c.requires.long c.counts_valid.ensures c.if-not-counts_valid.false in
-    omega (arith, i)
+surfaces_valid-requires-2 c = omega (arith, inside _ c.requires.long c.counts_valid.ensures c.if-not-counts_valid.false)
 
 pub bytes_valid-requires : goal.bytes_valid-requires
-bytes_valid-requires c =
-    let l = c.args.self.now in
-    omega (
-      arith,
-      c.surface_count.ensures,
-      c.new-textures.result.few,
-      status_long (buffers l.discards.now l.actions.now l.clears.now l.status.now) c.requires.long,
-    )
+bytes_valid-requires c = omega (arith, c.surface_count.ensures, c.new-textures.result.few, status_long _ c.requires.long)
 
 pub returns : goal.returns
 unfolding lent_valid
