@@ -21,8 +21,8 @@ rm -rf "$work"/base/crates/*/out
 grep -E '^(definition|laws|noninterference):' crates.txt > "$work/base/crates.txt"
 rm -rf "$work"/base/crates/*/must-fail "$work/base/$edits"
 rm -f "$work"/base/crates/definition/specs/{Corners,Sessions,Files}.antt "$work/base/crates/noninterference/proofs/Examples.antt"
-rm -rf "$work"/base/crates/definition/{src/verdicts.rt,proofs}
-sed -i -E '/^pub mod (Corners|Sessions|Files|Examples|verdicts;)$/d' \
+rm -rf "$work"/base/crates/definition/{src/verdicts.rt,src/by_refusal.rt,proofs}
+sed -i -E '/^pub mod (Corners|Sessions|Files|Examples|(verdicts|by_refusal);)$/d' \
     "$work"/base/crates/definition/{specs/Lib.antt,src/lib.rt} "$work/base/crates/noninterference/proofs/Lib.antt"
 (cd "$work/base/crates/noninterference" && rt check) > "$logs/base" 2>&1 || { echo 'the crates are not proved before any edit' >&2 && exit 2; }
 

@@ -10,11 +10,10 @@ ghost use Rattle.definition.specs.Check as Ck;
 ghost use Rattle.session.specs.Rows.{pass_in, session_in};
 ghost use Rattle.view_checks.specs.Taken.{taken_in};
 
+use definition::by_refusal::{unless, unless_against};
 use definition::refusals::Refusal;
 use definition::sizes::MAX_SLOTS;
-use definition::verdicts::{
-    AT_DEPTH_STENCIL, accepted, either, is_accepted, then, unless, unless_against,
-};
+use definition::verdicts::{AT_DEPTH_STENCIL, accepted, either, is_accepted, then};
 use definition::{Progress, Seen, Slot, Verdict, View};
 use formats::{is_color, with_color};
 use session::derived::{depth_of, extent_of, is_d2, is_d2_array, is_d3, is_none, transient};

@@ -7,8 +7,9 @@ ghost use Rattle.channel.specs.Operations.{store_in, ops_in};
 ghost use Rattle.channel.specs.Pass.{option_in, field_in, channel_in, Handles, resolved_in, answer_in, without_ops};
 
 use crate::{LoadOp, Operations, StoreOp, check_transient_attachment_ops};
+use definition::by_refusal::{refused_at, unless};
 use definition::refusals::Refusal;
-use definition::verdicts::{AT_DEPTH_STENCIL, accepted, refused_at, unless};
+use definition::verdicts::{AT_DEPTH_STENCIL, accepted};
 use definition::{Channel, Verdict};
 
 // PassChannel<V>.

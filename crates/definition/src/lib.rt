@@ -1,8 +1,9 @@
 // What the desk check answers, as definitions. Everything is in specs/; here are the records that the
 // definitions and the code share, so that a contract needs no translation. Numbers are document 01's.
-// The one code here is `black` and what is in `verdicts`, and is proved as all code is.
+// The one code here is `black`, what is in `verdicts` and `by_refusal`, and the number of a `Refusal`; it is proved as all code is.
 #![tactic(auto)]
 
+pub mod by_refusal;
 pub mod refusals;
 pub mod sizes;
 pub mod verdicts;

@@ -1,12 +1,10 @@
 // Verdicts: what a check answers, and how the answers of two checks are put in order.
 // Every function is total, and its contract is the definition of the same name.
 ghost use Rattle.std.specs.Prelude.{◌≡◌, cond};
-ghost use Rattle.definition.specs.Refusals.{number_of};
 ghost use Rattle.definition.specs.Verdict as D;
 ghost use Rattle.definition.specs.Verdict.{◌then◌};
 
 use crate::Verdict;
-use crate::refusals::Refusal;
 
 // The place of a verdict that has none.
 pub const NOWHERE: u32 = 17;
@@ -32,35 +30,35 @@ pub fn is_accepted(v: Verdict) -> bool
     v.number == 0
 }
 
-// Refused at the place.
-pub fn refused_at(refusal: Refusal, place: u32) -> Verdict
-    ensures { result ≡ D.refused_at (number_of refusal) place }
+// Refused as n at the place.
+pub fn refused_at(n: u32, place: u32) -> Verdict
+    ensures { result ≡ D.refused_at n place }
 {
     Verdict {
-        number: refusal.number(),
+        number: n,
         place,
         earlier: NOWHERE,
     }
 }
 
-// Refused at the place, where the test fails.
+// Number n at the place, where the test fails.
 #[tactic(auto, unfolding(crate::specs::Verdict::unless))]
-pub fn unless(ok: bool, refusal: Refusal, place: u32) -> Verdict
-    ensures { result ≡ D.unless ok (number_of refusal) place }
+pub fn unless(ok: bool, n: u32, place: u32) -> Verdict
+    ensures { result ≡ D.unless ok n place }
 {
-    either(ok, accepted(), refused_at(refusal, place))
+    either(ok, accepted(), refused_at(n, place))
 }
 
 // The same, compared with the view at an earlier place.
 #[tactic(auto, unfolding(crate::specs::Verdict::unless_against))]
-pub fn unless_against(ok: bool, refusal: Refusal, place: u32, earlier: u32) -> Verdict
-    ensures { result ≡ D.unless_against ok (number_of refusal) place earlier }
+pub fn unless_against(ok: bool, n: u32, place: u32, earlier: u32) -> Verdict
+    ensures { result ≡ D.unless_against ok n place earlier }
 {
     either(
         ok,
         accepted(),
         Verdict {
-            number: refusal.number(),
+            number: n,
             place,
             earlier,
         },

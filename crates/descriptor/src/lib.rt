@@ -9,8 +9,9 @@ ghost use Rattle.session.specs.Rows.{pass_in, session_in};
 
 use channel::pass::verdict_of;
 use channel::{LoadOp, StoreOp, check_transient_attachment_ops};
+use definition::by_refusal::{refused_at, unless};
 use definition::refusals::Refusal;
-use definition::verdicts::{AT_DEPTH_STENCIL, NOWHERE, accepted, either, refused_at, then, unless};
+use definition::verdicts::{AT_DEPTH_STENCIL, NOWHERE, accepted, either, then};
 use definition::{Channel, Slot, Verdict};
 use depth_stencil::{depth_channel, depth_resolved, stencil_channel, stencil_resolved};
 use formats::{has_depth, has_stencil, is_depth_stencil};

@@ -19,9 +19,10 @@ ghost use Rattle.desk.specs.Index.{index_in, status_index};
 
 use buffer_validation::{LentBuffers, surface_valid};
 use definition::Surface;
+use definition::by_refusal::refused_at;
 use definition::refusals::Refusal;
 use definition::sizes::ROWS_BYTES;
-use definition::verdicts::{NOWHERE, refused_at};
+use definition::verdicts::NOWHERE;
 use index::{SurfaceIndex, index_of};
 use lists::set_count;
 use render_pass::{Reply, check_pass, refusal};

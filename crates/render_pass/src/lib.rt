@@ -19,9 +19,10 @@ ghost use Rattle.render_pass.specs.Outcome.{replied, RoomOf, Checkable, Checked}
 use attachment_checks::{bytes_fit, depth_stencil_step, slot_steps};
 use attachments::resolve::{plans_of, replies_of};
 use attachments::{DepthStencilPart, depth_stencil_part, empty_reply};
+use definition::by_refusal::refused_at;
 use definition::refusals::Refusal;
 use definition::sizes::{MAX_ACTIONS, MAX_ATTACHMENTS};
-use definition::verdicts::{NOWHERE, is_accepted, refused_at, then};
+use definition::verdicts::{NOWHERE, is_accepted, then};
 use definition::{Attachment, Progress, Seen, Verdict};
 use descriptor::fill_arc_desc;
 use lists::count;

@@ -10,7 +10,8 @@ ghost use Rattle.render_pass.specs.Summary.{Summarizable, Summarized, refused_su
 use crate::{room_verdict, start};
 use attachments::depth_stencil_part;
 use attachments::resolve::plans_of;
-use definition::verdicts::{NOWHERE, accepted, is_accepted, refused_at};
+use definition::by_refusal::refused_at;
+use definition::verdicts::{NOWHERE, accepted, is_accepted};
 use definition::{Seen, Verdict};
 use discard_list::record_discards;
 use memory_init::tally::tally_pass;

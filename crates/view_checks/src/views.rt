@@ -4,10 +4,9 @@ ghost use Rattle.std.specs.Prelude.{◌≡◌};
 ghost use Rattle.definition.specs.Session.{session};
 ghost use Rattle.definition.specs.Views as Vw;
 
+use definition::by_refusal::{unless, unless_against};
 use definition::refusals::Refusal;
-use definition::verdicts::{
-    AT_DEPTH_STENCIL, NOWHERE, accepted, either, then, unless, unless_against,
-};
+use definition::verdicts::{AT_DEPTH_STENCIL, NOWHERE, accepted, either, then};
 use definition::{Seen, Verdict, View};
 use session::derived::{extent_of, is_d2, is_d2_array, is_d3, multiview, render_attachment};
 use session::header::max_multiview;
