@@ -1,14 +1,17 @@
--- A surface and a range of a session: the test of the texture's number, and then those of the texture. The texture rows of a valid session lie inside.
+-- A surface and a range of a session: the test of the texture's number, and then those of the texture. The texture rows of a valid session lie
+-- inside, and it has no more surfaces than it may.
 use mathlib.Core.Path.{◌≡◌, refl, sym, ap, ◌∙◌}
 use mathlib.Core.Bool.{Bool, true, false, not, cond, ◌&&◌, and_assoc}
 use Rattle.std.specs.Prelude.{Option, Some, None}
 use borrow.Author.Tests.{ne_eqb}
 use Rattle.laws.proofs.Tests.{and_off_right}
 use mathlib.Core.List.{List}
-use Prim.Native.Nat.{ℕ, ◌+◌, ◌-◌}
+use Prim.Native.Nat.{ℕ, ◌+◌, ◌-◌, ◌≤◌}
+use native.Mathlib.Nat.{le_refl}
 use native.Mathlib.Omega.{arith}
 use lib.Dec.{eqb, leb, ltb}
-use Rattle.definition.specs.Session.{Session, session, array_layers, slices_in}
+use Rattle.definition.specs.Sizes.{max_surfaces}
+use Rattle.definition.specs.Session.{Session, session, array_layers, slices_in, surface_count}
 use Rattle.definition.specs.Calls.{surface_valid, range_valid}
 use Rattle.definition.specs.declared.Texture.{Texture}
 use Rattle.definition.specs.declared.Surface.{Surface}
@@ -87,3 +90,6 @@ module _ (S : Session) where
 pub rows_inside : (s : List ℕ) → Valid s → RowsInside (session s).texture_count s
 unfolding session
 rows_inside s v = omega (arith, v.bytes)
+
+pub few_surfaces : (s : List ℕ) → Valid s → surface_count (session s) ≤ max_surfaces
+few_surfaces s v = v.surfaces _ (le_refl _)

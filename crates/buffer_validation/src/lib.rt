@@ -52,24 +52,24 @@ fn range_fits(t: Texture, x: Range) -> bool
 
 // ── the textures of a session
 
-// A session's bytes and the number of its textures, whose rows lie inside and which have no more surfaces than they may.
+// A session's bytes and the number of its textures, whose rows lie inside.
 #[derive(Clone, Copy)]
 struct Textures<'a> {
     bytes: &'a [u8],
     count: u32,
     ghost counted: { count ≡ (session bytes.now).texture_count },
     ghost inside: { RowsInside count bytes.now },
-    ghost few: { surface_count (session bytes.now) ≤ max_surfaces },
 }
 
 impl<'a> Textures<'a> {
-    // Those of a session that can be read.
-    fn new(s: ReadableSession<'a>) -> Self
-        ensures { result.bytes.now ≡ s.entry.bytes.now }
+    // Those of a session whose texture rows lie inside.
+    fn new(s: &'a [u8]) -> Self
+        requires { RowsInside (session s.now).texture_count s.now }
+        ensures { result.bytes.now ≡ s.now }
     {
         Textures {
-            bytes: s.bytes,
-            count: texture_count(s.bytes),
+            bytes: s,
+            count: texture_count(s),
         }
     }
 
@@ -161,9 +161,10 @@ impl<'a> Textures<'a> {
         true
     }
 
-    // How many surfaces the session has. The count of crate session tests every row and stops past the most: of one texture it takes half as
-    // many instructions as all of `is_valid`.
+    // How many surfaces the session has, no more than it may. The count of crate session tests every row and stops past the most: of one
+    // texture it takes half as many instructions as all of `is_valid`.
     fn surface_count(&self) -> usize
+        requires { surface_count (session self.now.bytes.now) ≤ max_surfaces }
         ensures { result ≡ surface_count (session self.now.bytes.now) }
     {
         let mut sum = 0;
@@ -174,9 +175,10 @@ impl<'a> Textures<'a> {
     }
 }
 
-// The session has the surface.
-pub fn surface_valid(s: ReadableSession<'_>, x: Surface) -> bool
-    ensures { result ≡ surface_valid (session s.entry.bytes.now) x }
+// The session, whose texture rows lie inside, has the surface.
+pub fn surface_valid(s: &[u8], x: Surface) -> bool
+    requires { RowsInside (session s.now).texture_count s.now }
+    ensures { result ≡ surface_valid (session s.now) x }
 {
     Textures::new(s).has(x)
 }
@@ -239,7 +241,7 @@ impl LentBuffers<'_> {
         if !self.counts_valid() {
             return false;
         }
-        let textures = Textures::new(s);
+        let textures = Textures::new(s.bytes);
         textures.surfaces_valid(self.discards)
             & textures.actions_valid(self.actions)
             & textures.surfaces_valid(self.clears)

@@ -53,8 +53,8 @@ pub fn deskcheck_session_refusal(session: &[u8]) -> u32
 fn status_index(session: &[u8], x: Surface) -> Result<u32, Refusal>
     ensures { index_in result ≡ status_index session.now x }
 {
-    let readable = validate_session(session)?;
-    if !surface_valid(readable, x) {
+    validate_session(session)?;
+    if !surface_valid(session, x) {
         return Err(Refusal::InvalidLent);
     }
     Ok(index_of(session, x))

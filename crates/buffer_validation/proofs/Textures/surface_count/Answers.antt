@@ -13,7 +13,7 @@ pub overflow_add-sum : goal.overflow_add-sum
 overflow_add-sum c =
     let S = session c.args.self.now.bytes.now in
     let e = sym (before_turn S c.loop-k.k) in
-    omega (arith, c.surfaces_in-sum.ensures.0, ap surfaces_in c.texture_inside.ensures, c.loop-k.invariant, e, before_grows S (c.loop-k.k + 1) S.texture_count (omega (arith, c.args.self.now.counted)), c.args.self.now.few)
+    omega (arith, c.surfaces_in-sum.ensures.0, ap surfaces_in c.texture_inside.ensures, c.loop-k.invariant, e, before_grows S (c.loop-k.k + 1) S.texture_count (omega (arith, c.args.self.now.counted)), c.requires)
 
 pub loop-k-preserved : goal.loop-k-preserved
 loop-k-preserved c = simp (c.surfaces_in-sum.ensures.0, c.texture_inside.ensures, c.loop-k.invariant, before_turn)
