@@ -15,7 +15,7 @@ use Rattle.definition.specs.Readable.{session_refusal}
 use Rattle.definition.specs.MemoryInit.{Lists}
 use Rattle.definition.specs.Pass.{Outcome, check_pass}
 use Rattle.definition.specs.Calls.{no_entries}
-use Rattle.definition.specs.Program.{ends_buffer, next_lists, lines, deskcheck}
+use Rattle.definition.specs.Program.{line, ends_buffer, next_lists, lines, deskcheck}
 use Rattle.laws.proofs.Tests.{cond_on, cond_off}
 use Rattle.lists.specs.Lists.{count_in, surface_of, CountSet}
 use Rattle.lists.proofs.Lists.{list_length, emptied}
@@ -23,7 +23,7 @@ use Rattle.memory_init.specs.Tally.{DiscardsInRoom}
 use Rattle.render_pass.specs.declared.summary.PassSummary.{PassSummary}
 use Rattle.render_pass.specs.Summary.{summary, StandFor, Summarized}
 use Rattle.whole_session.specs.Numbers.{numbers_at, put_numbers}
-use Rattle.whole_session.specs.Rows.{lists_before, row_at, lines_from, rows_in, Reached}
+use Rattle.whole_session.specs.Rows.{lists_before, row_at, first_rows, lines_from, rows_in, Reached}
 use Rattle.whole_session.proofs.Numbers.{numbers_kept, numbers_past}
 
 -- ── the end of a buffer
@@ -89,6 +89,34 @@ unfolding u32_at
 reached_fresh S passes = reached_first S passes (replicate discards_bytes 0) (record { long = omega (arith, length-replicate {A = ℕ} discards_bytes 0); count = omega arith }) refl
 
 -- ── all of them
+
+pub rows_more : (S : Session) (passes k : ℕ) → first_rows S passes (k + 1) ≡ first_rows S passes k ++ (row_at S passes k ∷ [])
+unfolding first_rows
+rows_more S passes k = ap (first_rows S passes) (add-one k)
+
+pub no_rows : (S : Session) (passes : ℕ) → first_rows S passes 0 ≡ []
+unfolding first_rows
+no_rows S passes = refl
+
+-- The rows so far and the lines of the passes to go are the session's lines.
+rows_then : (S : Session) (passes k left : ℕ) → k + left ≡ passes → lines S 0 passes no_entries ≡ first_rows S passes k ++ lines S k left (lists_before S passes k)
+unfolding first_rows lists_before
+rows_then S passes zero left e = let all : passes ≡ left = omega (arith, e) in ap (λ (q : ℕ). lines S 0 q no_entries) all
+rows_then S passes (suc k) left e =
+    let o = check_pass S (S.pass k) (lists_before S passes k) in
+    let one : k + 1 ≡ suc k = add-one k in
+    let to_go : passes - suc k ≡ left = omega (arith, e) in
+    rows_then S passes k (suc left) (omega (arith, e))
+    ∙ sym (append_assoc (first_rows S passes k) (line k o ∷ []) (lines S (k + 1) left (next_lists (S.pass k) left o.lists)))
+    ∙ λ i. (first_rows S passes k ++ (line k o ∷ [])) ++ lines S (one i) left (next_lists (S.pass k) (sym to_go i) o.lists)
+
+pub rows_all : (S : Session) (passes : ℕ) → first_rows S passes passes ≡ lines S 0 passes no_entries
+rows_all S passes = sym (append-nil (first_rows S passes passes)) ∙ sym (rows_then S passes passes 0 (omega arith))
+
+-- What `deskcheck` says of a readable session.
+pub deskcheck_rows : (s : List ℕ) → session_refusal s ≡ 0 → deskcheck s ≡ first_rows (session s) (session s).pass_count (session s).pass_count
+unfolding deskcheck
+deskcheck_rows s h = cond_on (eqb (session_refusal s) 0) _ _ (eq-eqb (session_refusal s) 0 h) ∙ sym (rows_all (session s) (session s).pass_count)
 
 -- What is said from the first pass on.
 pub lines_first : (s : List ℕ) (n : ℕ) → session_refusal s ≡ 0 → n ≡ (session s).pass_count → lines_from s n 0 ≡ deskcheck s

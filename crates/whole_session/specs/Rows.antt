@@ -18,9 +18,13 @@ unfoldable pub lists_before : Session → ℕ → ℕ → Lists
 lists_before S passes zero = no_entries
 lists_before S passes (suc k) = next_lists (S.pass k) (passes - suc k) (check_pass S (S.pass k) (lists_before S passes k)).lists
 
--- Its row.
+-- Its row, and the rows of the first k.
 abbrev pub row_at : Session → ℕ → ℕ → List ℕ
 row_at S passes k = line k (check_pass S (S.pass k) (lists_before S passes k))
+
+unfoldable pub first_rows : Session → ℕ → ℕ → List (List ℕ)
+first_rows S passes zero = []
+first_rows S passes (suc k) = first_rows S passes k ++ (row_at S passes k ∷ [])
 
 -- What `deskcheck` says of the passes from k on.
 abbrev pub lines_from : List ℕ → ℕ → ℕ → List (List ℕ)

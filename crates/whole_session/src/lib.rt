@@ -24,9 +24,9 @@ use words::write_numbers;
 
 // The row of a pass, and how many actions there are before the next one.
 #[derive(Clone, Copy)]
-struct Row {
-    numbers: [u32; ROW_NUMBERS],
-    actions: usize,
+pub struct Row {
+    pub numbers: [u32; ROW_NUMBERS],
+    pub actions: usize,
 }
 
 // Whether a buffer ends at a pass, number k of so many: by its flag, or as the last.
@@ -38,7 +38,13 @@ fn ends_buffer(pass: &PassRow, k: u32, passes: u32) -> bool
 }
 
 // The row of pass k of so many of a session; the discards and the actions are then those from which the next pass starts.
-fn next_row(s: ReadableSession<'_>, k: u32, passes: u32, discards: &mut [u8], actions: usize) -> Row
+pub fn next_row(
+    s: ReadableSession<'_>,
+    k: u32,
+    passes: u32,
+    discards: &mut [u8],
+    actions: usize,
+) -> Row
     requires there { k < passes }
     requires reached { Reached (session s.bytes.now) passes k discards.old actions }
     ensures { Advances (session s.entry.bytes.now) passes k result discards.new }
