@@ -7,9 +7,9 @@ ghost use Rattle.channel.specs.Operations.{store_in, ops_in};
 ghost use Rattle.channel.specs.Pass.{option_in, field_in, channel_in, Handles, resolved_in, answer_in, without_ops};
 
 use crate::{LoadOp, Operations, StoreOp, check_transient_attachment_ops};
-use definition::by_refusal::{refused_at, unless};
+use definition::by_refusal::refused_at;
 use definition::refusals::Refusal;
-use definition::verdicts::{AT_DEPTH_STENCIL, accepted};
+use definition::verdicts::{AT_DEPTH_STENCIL, accepted, unless};
 use definition::{Channel, Verdict};
 
 // PassChannel<V>.
@@ -60,19 +60,19 @@ pub fn channel_of<V: Copy>(c: Channel, clear: V) -> PassChannel<Option<V>>
 // ── checked and resolved
 
 impl<V: Copy> PassChannel<Option<V>> {
-    // Of a transient attachment: `lasting` where both operations are given and are not Clear or DontCare with Discard,
-    // `read_only` where one is absent and the channel is read-only.
+    // Of a transient attachment: n where both operations are given and are not Clear or DontCare with Discard,
+    // m where one is absent and the channel is read-only.
     #[tactic(auto, unfolding(definition::specs::Channel::transient_channel))]
-    pub fn check_transient(self, lasting: Refusal, read_only: Refusal) -> Verdict
-        ensures { result ≡ Ch.transient_channel (channel_in self) (number_of lasting) (number_of read_only) }
+    pub fn check_transient(self, n: u32, m: u32) -> Verdict
+        ensures { result ≡ Ch.transient_channel (channel_in self) n m }
     {
         match (self.load_op, self.store_op) {
             (Some(load), Some(store)) => unless(
                 check_transient_attachment_ops(load, store),
-                lasting,
+                n,
                 AT_DEPTH_STENCIL,
             ),
-            _ => unless(!self.read_only, read_only, AT_DEPTH_STENCIL),
+            _ => unless(!self.read_only, m, AT_DEPTH_STENCIL),
         }
     }
 
