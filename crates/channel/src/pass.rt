@@ -3,7 +3,7 @@ ghost use Rattle.std.specs.Prelude.{◌≡◌};
 ghost use Rattle.definition.specs.Channel as Ch;
 ghost use Rattle.definition.specs.Pass.{ops_bits};
 ghost use Rattle.definition.specs.Refusals.{number_of};
-ghost use Rattle.channel.specs.Operations.{store_in, ops_in};
+ghost use Rattle.channel.specs.Operations.{keep_in, store_in, load_in, ops_in};
 ghost use Rattle.channel.specs.Pass.{option_in, field_in, channel_in, Handles, resolved_in, answer_in, without_ops};
 
 use crate::{LoadOp, Operations, StoreOp, check_transient_attachment_ops};
@@ -160,6 +160,20 @@ impl<V: Copy> ResolvedPassChannel<V> {
         ops
     }
 
+    // What happens at the start of the pass: a read-only channel loads.
+    pub fn load_op(self) -> LoadOp<V>
+        ensures { load_in result ≡ (resolved_in self).load }
+    {
+        self.operations().load
+    }
+
+    // What happens at its end: a read-only channel stores.
+    pub fn store_op(self) -> StoreOp
+        ensures { keep_in result ≡ (resolved_in self).keep }
+    {
+        self.operations().store
+    }
+
     // The bits of its operations.
     pub fn hal_ops(self) -> u32
         ensures { result ≡ ops_bits (resolved_in self) }
@@ -180,6 +194,6 @@ impl<V: Copy + Default> ResolvedPassChannel<V> {
     pub fn clear_value(self) -> V
         ensures { (zero : _) × V.is_default zero × (result ≡ Ch.clear_value zero (resolved_in self).load) }
     {
-        self.operations().load.clear_value_or(V::default())
+        self.load_op().clear_value_or(V::default())
     }
 }
