@@ -4,7 +4,7 @@ ghost use Rattle.definition.specs.Channel as Ch;
 ghost use Rattle.definition.specs.Pass.{ops_bits};
 ghost use Rattle.definition.specs.Refusals.{number_of};
 ghost use Rattle.channel.specs.Operations.{keep_in, store_in, load_in, ops_in};
-ghost use Rattle.channel.specs.Pass.{option_in, field_in, channel_in, Handles, resolved_in, answer_in, without_ops};
+ghost use Rattle.channel.specs.Pass.{option_in, field_in, channel_in, handled_in, Handles, resolved_in, answer_in, without_ops};
 
 use crate::{LoadOp, Operations, StoreOp, check_transient_attachment_ops};
 use definition::by_refusal::refused_at;
@@ -124,6 +124,13 @@ impl<V: Copy> PassChannel<Option<V>> {
             load,
             store: self.store_op.ok_or(Refusal::NoStore)?,
         }))
+    }
+
+    // The same, of a clear value that was handled before.
+    pub fn resolve_handled(self, strict: bool, clear: Result<V, Refusal>) -> Resolved<V>
+        ensures { answer_in result ≡ Ch.resolve (λ _. handled_in clear) strict (channel_in self) }
+    {
+        self.resolve(strict, |_| clear)
     }
 }
 
