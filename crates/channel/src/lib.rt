@@ -1,6 +1,7 @@
 // What the channels of a pass share: load and store operations, whatever a Clear carries. In `color` what a slot does, in
 // `pass` a channel as a pass gives it.
-// Every function is total, and its contract is an equation with the definition, under the translations of specs/.
+// Every function is total, and its contract is an equation with the definition, under the translations of specs/; but `resolve`
+// asks that the function that is handed in may be called, and speaks of what it computes, and `clear_value` of its type's default.
 #![tactic(auto)]
 
 pub mod color;

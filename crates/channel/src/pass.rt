@@ -3,13 +3,13 @@ ghost use Rattle.std.specs.Prelude.{◌≡◌};
 ghost use Rattle.definition.specs.Channel as Ch;
 ghost use Rattle.definition.specs.Pass.{ops_bits};
 ghost use Rattle.definition.specs.Refusals.{number_of};
-ghost use Rattle.channel.specs.Operations.{store_in, ops_in};
-ghost use Rattle.channel.specs.Pass.{option_in, field_in, channel_in, Handles, resolved_in, answer_in, without_ops};
+ghost use Rattle.channel.specs.Operations.{keep_in, store_in, load_in, ops_in};
+ghost use Rattle.channel.specs.Pass.{option_in, field_in, channel_in, handled_in, Handles, resolved_in, answer_in, without_ops};
 
 use crate::{LoadOp, Operations, StoreOp, check_transient_attachment_ops};
-use definition::by_refusal::{refused_at, unless};
+use definition::by_refusal::refused_at;
 use definition::refusals::Refusal;
-use definition::verdicts::{AT_DEPTH_STENCIL, accepted};
+use definition::verdicts::{AT_DEPTH_STENCIL, accepted, unless};
 use definition::{Channel, Verdict};
 
 // PassChannel<V>.
@@ -60,19 +60,19 @@ pub fn channel_of<V: Copy>(c: Channel, clear: V) -> PassChannel<Option<V>>
 // ── checked and resolved
 
 impl<V: Copy> PassChannel<Option<V>> {
-    // Of a transient attachment: `lasting` where both operations are given and are not Clear or DontCare with Discard,
-    // `read_only` where one is absent and the channel is read-only.
+    // Of a transient attachment: n where both operations are given and are not Clear or DontCare with Discard,
+    // m where one is absent and the channel is read-only.
     #[tactic(auto, unfolding(definition::specs::Channel::transient_channel))]
-    pub fn check_transient(self, lasting: Refusal, read_only: Refusal) -> Verdict
-        ensures { result ≡ Ch.transient_channel (channel_in self) (number_of lasting) (number_of read_only) }
+    pub fn check_transient(self, n: u32, m: u32) -> Verdict
+        ensures { result ≡ Ch.transient_channel (channel_in self) n m }
     {
         match (self.load_op, self.store_op) {
             (Some(load), Some(store)) => unless(
                 check_transient_attachment_ops(load, store),
-                lasting,
+                n,
                 AT_DEPTH_STENCIL,
             ),
-            _ => unless(!self.read_only, read_only, AT_DEPTH_STENCIL),
+            _ => unless(!self.read_only, m, AT_DEPTH_STENCIL),
         }
     }
 
@@ -125,6 +125,13 @@ impl<V: Copy> PassChannel<Option<V>> {
             store: self.store_op.ok_or(Refusal::NoStore)?,
         }))
     }
+
+    // The same, of a clear value that was handled before.
+    pub fn resolve_handled(self, strict: bool, clear: Result<V, Refusal>) -> Resolved<V>
+        ensures { answer_in result ≡ Ch.resolve (λ _. handled_in clear) strict (channel_in self) }
+    {
+        self.resolve(strict, |_| clear)
+    }
 }
 
 // Fine for a channel, else its refusal.
@@ -160,6 +167,20 @@ impl<V: Copy> ResolvedPassChannel<V> {
         ops
     }
 
+    // What happens at the start of the pass: a read-only channel loads.
+    pub fn load_op(self) -> LoadOp<V>
+        ensures { load_in result ≡ (resolved_in self).load }
+    {
+        self.operations().load
+    }
+
+    // What happens at its end: a read-only channel stores.
+    pub fn store_op(self) -> StoreOp
+        ensures { keep_in result ≡ (resolved_in self).keep }
+    {
+        self.operations().store
+    }
+
     // The bits of its operations.
     pub fn hal_ops(self) -> u32
         ensures { result ≡ ops_bits (resolved_in self) }
@@ -180,6 +201,6 @@ impl<V: Copy + Default> ResolvedPassChannel<V> {
     pub fn clear_value(self) -> V
         ensures { (zero : _) × V.is_default zero × (result ≡ Ch.clear_value zero (resolved_in self).load) }
     {
-        self.operations().load.clear_value_or(V::default())
+        self.load_op().clear_value_or(V::default())
     }
 }

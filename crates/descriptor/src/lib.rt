@@ -74,16 +74,16 @@ fn channel_ops(
     let passing_depth = either(
         transient & has_depth,
         depth_channel(depth).check_transient(
-            Refusal::InvalidTransientDepthOps,
-            Refusal::ReadOnlyTransientDepth,
+            Refusal::InvalidTransientDepthOps.number(),
+            Refusal::ReadOnlyTransientDepth.number(),
         ),
         accepted(),
     );
     let passing_stencil = either(
         transient & has_stencil,
         stencil_channel(stencil).check_transient(
-            Refusal::InvalidTransientStencilOps,
-            Refusal::ReadOnlyTransientStencil,
+            Refusal::InvalidTransientStencilOps.number(),
+            Refusal::ReadOnlyTransientStencil.number(),
         ),
         accepted(),
     );
