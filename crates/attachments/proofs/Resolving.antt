@@ -13,13 +13,17 @@ use Rattle.definition.specs.Session.{Pass, Session, is_none, slice_range}
 use Rattle.definition.specs.Attachments.{Attached, resolve_to, color_of, slot_part, slot_parts, resolve_part}
 use Rattle.definition.specs.declared.Attachment.{Attachment}
 use Rattle.definition.specs.declared.Slot.{Slot}
+use Rattle.laws.specs.Plans.{plan_of}
 use Rattle.laws.proofs.Lists.{map-append}
 use Rattle.laws.proofs.Records.{drop_more}
 use Rattle.laws.proofs.Folds.{parts_turn}
+use Rattle.memory_init.specs.declared.Planned.{Planned}
+use Rattle.memory_init.specs.Plans.{plan_in}
 use Rattle.attachments.specs.declared.DepthStencilPart.{DepthStencilPart}
 use Rattle.std.specs.Prelude.{None, Some}
 use Rattle.attachments.specs.Attached.{Present, PartOf}
 use Rattle.attachments.specs.Resolved.{padded, listed}
+use Rattle.attachments.specs.Plans.{PlansOf}
 
 -- ── an array
 
@@ -113,6 +117,11 @@ slot_turn get of S p k {start} {es} {es₁} {es₂} {n} {n₁} {n₂} xs room co
     (put_filled get of (omega (arith, room, put_count get of color)) target (put_filled get of (omega (arith, room)) color f))
 
 -- ── all of them
+
+-- As plans.
+pub all_planned : {start ps : List Planned} {n : ℕ} {xs : List Attached} (few : n ≤ max_attachments) → Filled plan_in plan_of start ps n xs
+    → PlansOf xs (record { planned = ps; count = n; few = few })
+all_planned few f = record { plans = f.entries; whole = record { planned = f.long; count = few } }
 
 -- Blank records past those of a list.
 padded_past : (n : ℕ) (es : List Attachment) → length es ≤ n → es ++ drop (length es) (padded n []) ≡ padded n es

@@ -3,7 +3,7 @@ use Rattle.std.specs.Prelude as code
 use Rattle.std.specs.Prelude.{ℕ, ◌≡◌, Bool, not, ◌&&◌, ◌||◌, cond, Float, None, Some}
 use Rattle.std.specs.Bool.{beq}
 use Rattle.std.proofs.Math.Option.{Option, none, some}
-use Rattle.definition.specs.Channel.{Ops, loads}
+use Rattle.definition.specs.Channel.{Ops, loads, same_load}
 use Rattle.definition.specs.Attachments.{regular_kind, depth_stencil_kind, depth_stencil_discards, depth_stencil_divergent}
 use Rattle.definition.specs.declared.MemoryInitKind.{MemoryInitKind}
 use Rattle.definition.specs.declared.MemoryInitKind.TheVariants.{ImplicitlyInitialized, NeedsInitializedMemory}
@@ -28,6 +28,10 @@ kind_by loads keep = cond loads (some NeedsInitializedMemory) (cond keep (some I
 -- One channel alone.
 abbrev pub regular_effect : {X : Type 0} → Effect → Ops X → Type 0
 regular_effect p c = has_effect p (regular_kind c) (not c.keep) 0
+
+-- Whether the first of two channels decides for both: there is no second, or both load and store alike.
+abbrev pub by_first : {X Y : Type 0} → Bool → Ops X → Ops Y → Bool
+by_first both d s = not both || same_load s.load d.load && beq s.keep d.keep
 
 -- Two that do not do the same.
 abbrev pub diverged_kind : {X Y : Type 0} → Ops X → Ops Y → Option MemoryInitKind

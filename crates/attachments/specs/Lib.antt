@@ -2,3 +2,4 @@
 pub mod Attached
 pub mod Effect
 pub mod Resolved
+pub mod Plans

@@ -33,6 +33,9 @@ pub enum Aspect {
     Stencil = 2,
 }
 
+// No aspect diverges, by its number in the reply.
+pub const NO_ASPECT: u32 = 0;
+
 // The effect of operations: the action that they register, whether they list a discard, and the aspect that diverges.
 #[derive(Clone, Copy)]
 pub struct Effect {

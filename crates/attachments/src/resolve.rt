@@ -1,7 +1,7 @@
 // The attachments of a pass, in fixed arrays: depth-stencil, then each colour and its resolve target, in the Rust's order. What each does to
 // the lists is resolved once, for judging and recording; what the reply says of it only where there is a reply. Records past the count are
 // blank, so that a reply is determined whole.
-ghost use Rattle.std.specs.Prelude.{◌≡◌, not, ◌&&◌, ◌++◌, map, List, take, length, ◌≤◌};
+ghost use Rattle.std.specs.Prelude.{◌≡◌, not, ◌&&◌, ◌++◌, map, take, length, ◌≤◌};
 ghost use Rattle.definition.specs.Sizes.{max_slots, max_attachments};
 ghost use Rattle.definition.specs.Session.{session, is_none};
 ghost use Rattle.definition.specs.Attachments.{depth_stencil_part, slot_parts};
@@ -10,7 +10,6 @@ ghost use Rattle.definition.specs.Pass.{attachment_reply};
 ghost use Rattle.laws.specs.Plans.{plan_of};
 ghost use Rattle.session.specs.Rows.{pass_in, session_in};
 ghost use Rattle.memory_init.specs.Plans.{plans_in};
-ghost use Rattle.memory_init.specs.declared.Planned as Pl;
 ghost use Rattle.attachments.specs.Resolved.{listed};
 
 use crate::{
@@ -22,27 +21,19 @@ use definition::{Attachment, Slot};
 use memory_init::Planned;
 use session::PassRow;
 use session::derived::is_none;
-use std::marker::Model;
 
-// What the attachments of a pass do to the lists, in order.
-#[derive(Drop)]
+// What the attachments of a pass do to the lists, in order: the first `count`.
+#[derive(Clone, Copy)]
 pub struct Plans {
-    planned: [Planned; MAX_ATTACHMENTS],
-    count: u32,
-}
-
-impl Model for Plans {
-    ghost Value = { List Pl.Planned };
-
-    ghost view = { λ p. take p.count p.planned };
-
-    ghost invariant = { λ p. p.count ≤ max_attachments };
+    pub planned: [Planned; MAX_ATTACHMENTS],
+    pub count: u32,
+    ghost few: { count ≤ max_attachments },
 }
 
 impl Plans {
     // All of them.
     pub fn as_slice(&self) -> &[Planned]
-        ensures all { result.now ≡ self.now }
+        ensures all { result.now ≡ take self.now.count self.now.planned }
         ensures few { length result.now ≤ max_attachments }
     {
         &self.planned[..self.count as usize]
@@ -77,7 +68,7 @@ pub fn plans_of(pass: &PassRow, d: &Option<DepthStencilPart>, n: u32) -> Plans
     requires few_slots { n ≤ max_slots }
     ensures { let S = session_in pass.now in
         let p = pass_in pass.now in
-        plans_in result ≡ map plan_of (depth_stencil_part S p ++ slot_parts S p n) }
+        plans_in (take result.count result.planned) ≡ map plan_of (depth_stencil_part S p ++ slot_parts S p n) }
 {
     let mut planned = [no_plan(); MAX_ATTACHMENTS];
     let mut count = 0u32;

@@ -3,9 +3,10 @@ use Prim.Native.Nat.{ℕ, ◌+◌, ◌*◌, ◌≤◌, ◌<◌}
 use native.Mathlib.Nat.{mul-le-mul_left}
 use native.Mathlib.Omega.{arith}
 use mathlib.Core.Path.{◌≡◌, refl, sym, ap, subst, ◌∙◌}
+use mathlib.Core.Bool.{true, false}
 use mathlib.Core.List.{List, [], ◌∷◌, ◌++◌, map, append_assoc, append-nil}
-use mathlib.Core.Option.{some}
-use lib.ListN.{length, drop, get_or, length-append}
+use mathlib.Core.Option.{Option, none, some}
+use lib.ListN.{length, drop, get_or, length-append, length-map}
 use Rattle.definition.specs.Sizes.{count_bytes, list_bytes}
 use Rattle.definition.specs.MemoryInit.{implicit_at, matching}
 use Rattle.definition.specs.declared.Surface.{Surface}
@@ -15,10 +16,11 @@ use Rattle.definition.specs.declared.MemoryInitKind.{MemoryInitKind}
 use Rattle.definition.specs.declared.MemoryInitKind.TheVariants.{ImplicitlyInitialized, NeedsInitializedMemory}
 use Rattle.laws.specs.Plans.{Plan, action_of, returned_by, added_by, returned_all, added_all}
 use Rattle.laws.specs.Records.{records, Written, Appended}
+use Rattle.laws.proofs.Tests.{clash}
 use Rattle.laws.proofs.Records.{records_length, past_more, append_count}
 use Rattle.lists.specs.Lists.{CountSet, Becomes}
 use Rattle.lists.proofs.Lists.{becomes}
-use Rattle.memory_init.specs.Plans.{plan_in, plans_in}
+use Rattle.memory_init.specs.Plans.{needs, plan_in, plans_in}
 use Rattle.memory_init.specs.declared.Planned.{Planned}
 use Rattle.memory_init.proofs.Turns.{plans_turn, plans_done}
 
@@ -32,16 +34,37 @@ written_as {k = k} {decode = decode} {i = i} {s = s} {l = l} e = subst (λ q. Wr
 pub appended_as : {A : Type 0} {k : ℕ} {decode : List ℕ → A} {n r : ℕ} {xs ys : List A} {l l' : List ℕ} → ys ≡ xs → Appended k decode n xs l l' r → Appended k decode n ys l l' r
 appended_as {k = k} {decode = decode} {n = n} {r = r} {l = l} {l' = l'} e = subst (λ q. Appended k decode n q l l' r) (sym e)
 
--- ── what one plan adds
+-- ── what one plan adds and returns
 
 module _ (r : Range) (d : List Surface) where
-  -- An implicit registration adds its own action alone.
+  -- A registration adds its own action at least.
+  pub added_some : (k : MemoryInitKind) → 1 ≤ length (added_by (some k) r d)
+  added_some ImplicitlyInitialized = omega arith
+  added_some NeedsInitializedMemory = omega arith
+
+  -- An implicit one adds no other.
   pub added_implicit : (k : MemoryInitKind) → k ≡ ImplicitlyInitialized → added_by (some k) r d ≡ action_of r k ∷ []
   added_implicit k e = ap (λ q. added_by (some q) r d) e ∙ ap (λ q. action_of r q ∷ []) (sym e)
 
   -- A needing one adds the implicit ones behind it.
   pub added_needing : (k : MemoryInitKind) → k ≡ NeedsInitializedMemory → added_by (some k) r d ≡ (action_of r k ∷ []) ++ map implicit_at (matching r d)
   added_needing k e = ap (λ q. added_by (some q) r d) e ∙ ap (λ q. action_of r q ∷ map implicit_at (matching r d)) (sym e)
+
+  -- It adds one for itself and one for each discard in its range.
+  pub needing_count : (k : MemoryInitKind) → k ≡ NeedsInitializedMemory → length (added_by (some k) r d) ≡ 1 + length (matching r d)
+  needing_count k e = omega (arith, ap length (added_needing k e), length-map (matching r d) implicit_at)
+
+  -- What needs no initialised memory returns nothing.
+  pub returned_none : (k : Option MemoryInitKind) → needs k ≡ false → returned_by k r d ≡ []
+  returned_none none h = refl
+  returned_none (some ImplicitlyInitialized) h = refl
+  returned_none (some NeedsInitializedMemory) h = clash {b = true} refl h
+
+  -- What needs it returns the discards in the range.
+  pub returned_needing : (k : Option MemoryInitKind) → needs k ≡ true → returned_by k r d ≡ matching r d
+  returned_needing none h = clash {b = false} h refl
+  returned_needing (some ImplicitlyInitialized) h = clash {b = false} h refl
+  returned_needing (some NeedsInitializedMemory) h = refl
 
 -- ── entries of a list appended part by part
 

@@ -1,8 +1,9 @@
 -- What the structs of this crate say of a pass's attachments.
 use Rattle.std.specs.Prelude as code
-use Rattle.std.specs.Prelude.{List, map, None, Some}
+use Rattle.std.specs.Prelude.{Bool, true, false, List, map, None, Some}
 use Rattle.std.proofs.Math.Option.{Option, none, some}
 use Rattle.definition.specs.declared.MemoryInitKind.{MemoryInitKind}
+use Rattle.definition.specs.declared.MemoryInitKind.TheVariants.{ImplicitlyInitialized, NeedsInitializedMemory}
 use Rattle.laws.specs.Plans.{Plan}
 use Rattle.memory_init.specs.declared.Planned.{Planned}
 
@@ -10,6 +11,12 @@ use Rattle.memory_init.specs.declared.Planned.{Planned}
 abbrev pub init_kind : code.Option MemoryInitKind → Option MemoryInitKind
 init_kind None = none
 init_kind (Some k) = some k
+
+-- A needing action.
+abbrev pub needs : Option MemoryInitKind → Bool
+needs none = false
+needs (some ImplicitlyInitialized) = false
+needs (some NeedsInitializedMemory) = true
 
 -- A plan, and the plans of a pass.
 abbrev pub plan_in : Planned → Plan
