@@ -1,5 +1,5 @@
 // Words that are read on past a difference: where in the list they end, and whether every word so far is the one that was answered.
-ghost use Rattle.std.specs.Prelude.{◌≡◌, ◌<◌, drop, length};
+ghost use Rattle.std.specs.Prelude.{◌≡◌, ◌<◌, drop};
 ghost use Rattle.definition.specs.Sizes.{max_passes};
 ghost use Rattle.whole_session.specs.Numbers.{numbers_at};
 ghost use Rattle.answer_words.specs.Words.{line_words, rest_words};
