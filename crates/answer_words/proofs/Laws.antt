@@ -2,11 +2,11 @@
 use mathlib.Core.Path.{◌≡◌, refl, sym, ap, ◌∙◌}
 use mathlib.Core.List.{List, [], ◌∷◌, ◌++◌, append_assoc, append-nil}
 use Prim.Native.Nat.{ℕ, zero, suc, ◌+◌, ◌-◌, ◌*◌, ◌≤◌, ◌<◌}
-use native.Mathlib.Nat.{add-zero, add-suc}
+use native.Mathlib.Nat.{add-zero, add-suc, not-suc-le-zero, le_of_suc-le-suc}
 use native.Mathlib.Omega.{arith}
 use native.Mathlib.Numerals.{add-one}
 use lib.ListN.{length, get_or, take, drop, take-append-drop}
-use lib.Seq.{take-suc}
+use lib.Seq.{take-suc, take_all}
 use Rattle.std.specs.Prelude.{Option, Some, None, option_and_then}
 use Rattle.definition.specs.Bytes.{u32_at}
 use Rattle.definition.specs.declared.Attachment.{Attachment}
@@ -23,6 +23,18 @@ words_append b (x ∷ xs) ys = go (next_word b x) (λ rest. words_append rest xs
         → option_and_then (λ rest. next_words rest (xs ++ ys)) o ≡ option_and_then (λ rest. next_words rest ys) (option_and_then (λ rest. next_words rest xs) o)
     go None f = refl
     go (Some rest) f = f rest
+
+-- One attachment more.
+pub attachments_more : (l : List Attachment) (n : ℕ) (d : Attachment) → n < length l → attachments_words (take (suc n) l) ≡ attachments_words (take n l) ++ attachment_words (get_or l n d)
+unfolding attachments_words
+attachments_more [] n d h = absurd (not-suc-le-zero h)
+attachments_more (a ∷ l) zero d h = append-nil (attachment_words a)
+attachments_more (a ∷ l) (suc n) d h =
+    ap (λ (ws : List ℕ). attachment_words a ++ ws) (attachments_more l n d (le_of_suc-le-suc h)) ∙ sym (append_assoc (attachment_words a) (attachments_words (take n l)) _)
+
+-- Past the last there are no more.
+pub attachments_all : (l : List Attachment) (n m : ℕ) → length l ≤ n → length l ≤ m → attachments_words (take n l) ≡ attachments_words (take m l)
+attachments_all l n m h k = ap attachments_words (take_all n l h ∙ sym (take_all m l k))
 
 module _ (b : List ℕ) where
   -- Where some words are not the next ones, they are not with others behind them.
@@ -71,12 +83,8 @@ module _ (b : List ℕ) where
 
   pub attachment_turn : (l : List Attachment) (i : ℕ) (d : Attachment) (rest : List ℕ) → i < length l → Some rest ≡ next_words b (attachments_words (take i l))
       → next_words b (attachments_words (take (i + 1) l)) ≡ next_words rest (attachment_words (get_or l i d))
-  unfolding attachments_words
   attachment_turn l i d rest h e =
-      ap (λ (m : List Attachment). next_words b (attachments_words m)) (rw add-one (take-suc l i d h))
-      ∙ ap (λ (ws : List ℕ). next_words b ws) (attachments_append (take i l) (get_or l i d ∷ []))
-      ∙ words_more (attachments_words (take i l)) (attachments_words (get_or l i d ∷ [])) rest e
-      ∙ ap (λ (ws : List ℕ). next_words rest ws) (append-nil (attachment_words (get_or l i d)))
+      ap (λ (ws : List ℕ). next_words b ws) (rw add-one (attachments_more l i d h)) ∙ words_more (attachments_words (take i l)) (attachment_words (get_or l i d)) rest e
 
   pub attachments_stop : (l : List Attachment) (i : ℕ) → next_words b (attachments_words (take i l)) ≡ None → next_words b (attachments_words l) ≡ None
   attachments_stop l i h =

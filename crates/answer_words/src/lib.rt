@@ -1,6 +1,8 @@
 // The words of an answer: a reply to a pass, held to the next words of a list of answers. harness/README.md has the list's form.
 #![tactic(auto)]
 
+pub mod places;
+
 ghost use Rattle.std.specs.Prelude.{◌≡◌, ◌<◌, option_copied};
 ghost use Rattle.definition.specs.Sizes.{max_passes};
 ghost use Rattle.whole_session.specs.Numbers.{numbers_at};
