@@ -1,9 +1,11 @@
 // A channel as a pass gives it, and what it resolves to: 14 to 26. What is made of a clear value is handed in.
 ghost use Rattle.std.specs.Prelude.{◌≡◌};
+ghost use Rattle.std.proofs.Math.Option.{none};
 ghost use Rattle.definition.specs.Channel as Ch;
 ghost use Rattle.definition.specs.Pass.{ops_bits};
 ghost use Rattle.definition.specs.Refusals.{number_of};
 ghost use Rattle.channel.specs.Operations.{keep_in, store_in, load_in, ops_in};
+ghost use Rattle.channel.specs.Valued.{asked_clear};
 ghost use Rattle.channel.specs.Pass.{option_in, field_in, channel_in, handled_in, Handles, resolved_in, answer_in, without_ops};
 
 use crate::{LoadOp, Operations, StoreOp, check_transient_attachment_ops};
@@ -60,19 +62,50 @@ pub fn channel_of<V: Copy>(c: Channel, clear: V) -> PassChannel<Option<V>>
 // ── checked and resolved
 
 impl<V: Copy> PassChannel<Option<V>> {
+    // The load that is asked for.
+    fn load(self) -> Option<LoadOp<Option<V>>>
+        ensures { field_in result ≡ (channel_in self).load }
+    {
+        self.load_op
+    }
+
+    // The store that is asked for.
+    fn store(self) -> Option<StoreOp>
+        ensures { store_in result ≡ (channel_in self).store }
+    {
+        self.store_op
+    }
+
+    // Whether the channel is only read.
+    fn is_readonly(self) -> bool
+        ensures { result ≡ (channel_in self).read_only }
+    {
+        self.read_only
+    }
+
+    // The value of a Clear; none where there is none.
+    pub fn clear_value(self) -> Option<V>
+        ensures { option_in result ≡ asked_clear none (channel_in self).load }
+    {
+        match self.load_op {
+            Some(LoadOp::Clear(value)) => value,
+            _ => None,
+        }
+    }
+
     // Of a transient attachment: n where both operations are given and are not Clear or DontCare with Discard,
     // m where one is absent and the channel is read-only.
     #[tactic(auto, unfolding(definition::specs::Channel::transient_channel))]
     pub fn check_transient(self, n: u32, m: u32) -> Verdict
         ensures { result ≡ Ch.transient_channel (channel_in self) n m }
     {
-        match (self.load_op, self.store_op) {
+        match (self.load(), self.store()) {
             (Some(load), Some(store)) => unless(
                 check_transient_attachment_ops(load, store),
                 n,
                 AT_DEPTH_STENCIL,
             ),
-            _ => unless(!self.read_only, m, AT_DEPTH_STENCIL),
+            _ => unless(!self.is_readonly(), m, AT_DEPTH_STENCIL),
         }
     }
 
