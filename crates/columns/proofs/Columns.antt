@@ -1,12 +1,12 @@
 -- Rows by columns: lengths, where each byte stands, the way back, and one turn of each loop.
 use mathlib.Core.Path.{◌≡◌, refl, sym, ap, ◌∙◌}
-use mathlib.Core.List.{List, [], ◌∷◌, ◌++◌}
+use mathlib.Core.List.{List, [], ◌∷◌, ◌++◌, append_assoc}
 use Prim.Native.Nat.{ℕ, zero, suc, ◌+◌, ◌*◌, ◌/◌, ◌%◌, ◌≤◌, ◌<◌}
 use native.Mathlib.Nat.{mul-suc, mul-zero, mul_comm, mul-le-mul_left, div-add-mod, mod-lt, div-lt_iff_lt-mul}
 use native.Mathlib.Omega.{arith}
 use native.Mathlib.Numerals.{add-one}
 use borrow.Rule.Slice.PartMut.{put_mid}
-use lib.ListN.{length, get_or, take, drop, set, length-append, get_or-append}
+use lib.ListN.{length, get_or, take, drop, set, length-append, get_or-append, take-append-drop}
 use lib.Seq.{take-suc-set, get_or-append-add, get_or-append_seam, ext_get_or}
 use Rattle.std.proofs.lemmas.Slice.{take-put_mid, drop-put_mid}
 use Rattle.laws.proofs.Tests.{by_order}
@@ -79,11 +79,29 @@ transposed_back r c b h = ext_get_or 0 (transposed c r (transposed r c b)) b (si
 
 -- ── a turn of each loop
 
--- A byte more of a column.
-pub column_turn : (c : ℕ) (b : List ℕ) (j i : ℕ) (out : List ℕ) → i < length out → take i out ≡ column c b j i
+-- A byte more of a column that stands from `at` on.
+pub column_turn : (c : ℕ) (b : List ℕ) (j at i : ℕ) (out₀ out : List ℕ) (v : ℕ) → at + i < length out → v ≡ get_or b (c * i + j) 0
+    → take (at + i) out ≡ take at out₀ ++ column c b j i → take (at + (i + 1)) (set out (at + i) v) ≡ take at out₀ ++ column c b j (i + 1)
+unfolding column
+column_turn c b j at i out₀ out v h e p =
+    let q : at + (i + 1) ≡ suc (at + i) = omega arith in
+    ap (λ k. take k (set out (at + i) v)) q
+    ∙ take-suc-set out (at + i) v h
+    ∙ ap (λ l. l ++ (v ∷ [])) p
+    ∙ append_assoc (take at out₀) (column c b j i) (v ∷ [])
+    ∙ rw add-one (ap (λ x. take at out₀ ++ (column c b j i ++ (x ∷ []))) e)
+
+-- The same of one that stands alone.
+pub column_put : (c : ℕ) (b : List ℕ) (j i : ℕ) (out : List ℕ) → i < length out → take i out ≡ column c b j i
     → take (i + 1) (set out i (get_or b (c * i + j) 0)) ≡ column c b j (i + 1)
 unfolding column
-column_turn c b j i out h p = rw add-one (take-suc-set out i _ h ∙ ap (λ l. l ++ (get_or b (c * i + j) 0 ∷ [])) p)
+column_put c b j i out h p = rw add-one (take-suc-set out i _ h ∙ ap (λ l. l ++ (get_or b (c * i + j) 0 ∷ [])) p)
+
+-- A column more at the front.
+pub columns_turn : (r c : ℕ) (b : List ℕ) (at j : ℕ) (out out' : List ℕ) → take at out ≡ columns r c b j
+    → take (at + r) out' ≡ take at out ++ column c b j r → take (at + r) out' ≡ columns r c b (j + 1)
+unfolding columns
+columns_turn r c b at j out out' p q = rw add-one (q ∙ ap (λ l. l ++ column c b j r) p)
 
 -- A column more, behind those in front; what is behind it stays.
 module _ (r c : ℕ) (b : List ℕ) (j : ℕ) (out out₀ : List ℕ) (col : List ℕ) (room : r * j + r ≤ length out) (written : col ≡ column c b j r)
@@ -91,9 +109,9 @@ module _ (r c : ℕ) (b : List ℕ) (j : ℕ) (out out₀ : List ℕ) (col : Lis
   long : length col ≡ r
   long = ap length written ∙ column_length c b j r
 
-  pub columns_turn : take (r * j) out ≡ columns r c b j → take (r * (j + 1)) (put_mid (r * j) r out col) ≡ columns r c b (j + 1)
+  pub columns_put : take (r * j) out ≡ columns r c b j → take (r * (j + 1)) (put_mid (r * j) r out col) ≡ columns r c b (j + 1)
   unfolding columns
-  columns_turn p =
+  columns_put p =
       take-put_mid (r * j) r out col (r * (j + 1)) (omega (arith, long, mul_add_one r j)) (omega arith)
       ∙ rw add-one (ap (λ l. l ++ col) p ∙ ap (λ l. columns r c b j ++ l) written)
 
@@ -105,3 +123,7 @@ module _ (r c : ℕ) (b : List ℕ) (j : ℕ) (out out₀ : List ℕ) (col : Lis
 -- There is room for column j.
 pub column_room : (r c j n : ℕ) → j < c → r * c ≤ n → r * j + r ≤ n
 column_room r c j n h g = omega (arith, mul-suc r j, mul-le-mul_left r h)
+
+-- What stands in front and what stays behind it are the whole target.
+pub both_parts : (k m : ℕ) (f out out₀ : List ℕ) → k ≡ m → take k out ≡ f → drop k out ≡ drop k out₀ → out ≡ f ++ drop m out₀
+both_parts k m f out out₀ e p q = sym (take-append-drop k out) ∙ ap (λ l. l ++ drop k out) p ∙ ap (λ l. f ++ l) (q ∙ ap (λ (x : ℕ). drop x out₀) e)

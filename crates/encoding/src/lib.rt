@@ -72,12 +72,24 @@ pub fn u32_at(s: &[u8], at: usize) -> u32
     }
 }
 
-// Eight u32, each tested by itself.
+// Eight u32, each tested by itself. At or past the end one test serves all of them.
 #[cold]
 #[inline(never)]
 fn eight_across_end(s: &[u8], at: usize) -> Eight
     ensures { result ≡ eight_at s.now at }
 {
+    if at >= s.len() {
+        return Eight {
+            n0: 0,
+            n1: 0,
+            n2: 0,
+            n3: 0,
+            n4: 0,
+            n5: 0,
+            n6: 0,
+            n7: 0,
+        };
+    }
     let rest = rest(s, at);
     Eight {
         n0: u32_at(rest, 0),

@@ -4,7 +4,7 @@ use native.Mathlib.Nat.{mul-zero}
 use lib.ListN.{length-drop}
 use lib.Seq.{length-take-le}
 use Rattle.columns.specs.Columns.{column, columns}
-use Rattle.columns.proofs.Columns.{column_room, columns_turn, columns_stay}
+use Rattle.columns.proofs.Columns.{column_room, columns_put, columns_stay}
 use Rattle.columns.proofs.transpose.Goals as goal
 
 pub loop-j-init : goal.loop-j-init
@@ -21,6 +21,6 @@ loop-j-preserved c =
     let long : length (take a.r (drop at l.out)) ≡ a.r = length-take-le a.r (drop at l.out) (omega (arith, length-drop at l.out, room)) in
     let written = (simp one at c.put_column.ensures) ∙ ap (column a.c a.src.now l.j) long in
     rw one record {
-      in_front = columns_turn a.r a.c a.src.now l.j l.out a.out.now c.put_column.new.column room written l.invariant.behind l.invariant.in_front;
+      in_front = columns_put a.r a.c a.src.now l.j l.out a.out.now c.put_column.new.column room written l.invariant.behind l.invariant.in_front;
       behind = columns_stay a.r a.c a.src.now l.j l.out a.out.now c.put_column.new.column room written l.invariant.behind;
     }
