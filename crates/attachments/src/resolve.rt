@@ -66,9 +66,10 @@ fn resolves(c: Slot) -> bool
 pub fn plans_of(pass: &PassRow, d: &Option<DepthStencilPart>, n: u32) -> Plans
     requires part_of { PartOf (session_in pass.now) d.now (depth_stencil_part (session_in pass.now) (pass_in pass.now)) }
     requires few_slots { n ≤ max_slots }
-    ensures { let S = session_in pass.now in
+    ensures plans { let S = session_in pass.now in
         let p = pass_in pass.now in
         plans_in (take result.count result.planned) ≡ map plan_of (depth_stencil_part S p ++ slot_parts S p n) }
+    ensures whole { length result.planned ≡ max_attachments }
 {
     let mut planned = [no_plan(); MAX_ATTACHMENTS];
     let mut count = 0u32;

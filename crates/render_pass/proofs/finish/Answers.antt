@@ -23,7 +23,7 @@ lent c = bytes c.args.discards.now c.args.actions.now c.args.clears.now
 
 -- The plans that are tallied are those of the pass's attachments.
 planned : (c : After-room_verdict) → plans_in c.as_slice-plans.result.now ≡ map plan_of (attachments (session_in c.args.pass.now) (pass_in c.args.pass.now))
-planned c = lent_plans _ _ c.colors-n.ensures c.as_slice-plans.ensures.all c.plans_of-resolved.ensures
+planned c = lent_plans _ _ c.colors-n.ensures c.as_slice-plans.ensures.all c.plans_of-resolved.ensures.plans
 
 -- The room is told by the actions that are lent.
 told : (c : After-room_verdict) → room_by c.tally_pass-t.result c.count.result ≡ room_by c.tally_pass-t.result (count_in c.args.actions.now)

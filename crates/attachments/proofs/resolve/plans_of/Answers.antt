@@ -65,7 +65,8 @@ returns c =
     let S = session_in c.args.pass.now in
     let p = pass_in c.args.pass.now in
     let e : c.loop-k.k ≡ c.args.n = omega arith in
-    simp e at (c.loop-k.invariant.0 _ _ (elim c.match-d.branch [
+    let f = c.loop-k.invariant.0 _ _ (elim c.match-d.branch [
       | in-Some w ↦ first_present plan_in plan_of S {d = w.in-Some.d} w.in-Some.d.planned (λ x a. a.planned) (depth_stencil_part S p) (subst (λ d. PartOf S d (depth_stencil_part S p)) w.in-Some.is c.requires.part_of) w.planned-is w.count-is refl
       | in_default w ↦ first_absent plan_in plan_of S (depth_stencil_part S p) (subst (λ d. PartOf S d (depth_stencil_part S p)) w.in_default.is c.requires.part_of) w.planned-is w.count-is refl
-    ])).entries
+    ]) in
+    record { plans = simp e at f.entries; whole = f.long }

@@ -15,7 +15,7 @@ use Rattle.render_pass.proofs.summary.finish_summary.Goals.{After-room_verdict}
 
 -- The plans that are tallied are those of the pass's attachments.
 planned : (c : After-room_verdict) → plans_in c.as_slice-plans.result.now ≡ map plan_of (attachments (session_in c.args.pass.now) (pass_in c.args.pass.now))
-planned c = lent_plans _ _ c.colors.ensures c.as_slice-plans.ensures.all c.plans_of-resolved.ensures
+planned c = lent_plans _ _ c.colors.ensures c.as_slice-plans.ensures.all c.plans_of-resolved.ensures.plans
 
 pub plans_of-resolved-requires-clause-few_slots : goal.plans_of-resolved-requires-clause-few_slots
 plans_of-resolved-requires-clause-few_slots c = omega (arith, c.colors.ensures, few_colors _ _ c.requires.judged.0)
