@@ -16,7 +16,7 @@ use session::pass_start;
 use session_validation::{ReadableSession, validate_session};
 use std::io;
 use std::io::Read;
-use streams::{BUFFER_BYTES, read_file};
+use streams::{BUFFER_BYTES, hold_file};
 
 // A session, rearranged: its length.
 #[tactic(auto, using(crate::proofs::Theorem::start_inside, crate::proofs::Written::session_fits))]
@@ -59,6 +59,6 @@ pub fn answer<R: Read>(way: Way, input: &mut R, out: &mut [u8]) -> io::Result<us
         take n out.new ≡ written way file)) }
 {
     let mut buffer = [0u8; BUFFER_BYTES];
-    let file = read_file(input, &mut buffer)?;
+    let file = hold_file(input, &mut buffer)?;
     Ok(write_file(way, file, out))
 }

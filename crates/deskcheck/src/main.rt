@@ -12,7 +12,7 @@ use report::{PRINTED_BYTES, print_file};
 use std::io;
 use std::io::Read;
 use std::process::ExitCode;
-use streams::{BUFFER_BYTES, read_file, write_text};
+use streams::{BUFFER_BYTES, hold_file, write_text};
 
 // The text for the input: its length. Where reading failed there is none.
 fn answer<R: Read>(input: &mut R, out: &mut [u8]) -> io::Result<usize>
@@ -25,7 +25,7 @@ fn answer<R: Read>(input: &mut R, out: &mut [u8]) -> io::Result<usize>
         take n out.new ≡ output file)) }
 {
     let mut buffer = [0u8; BUFFER_BYTES];
-    let file = read_file(input, &mut buffer)?;
+    let file = hold_file(input, &mut buffer)?;
     Ok(print_file(file, out))
 }
 

@@ -59,7 +59,7 @@ more_digits (suc k) n h =
 appends : AppendsLastDigit text_within
 appends = record { one = one_digit; more = more_digits }
 
-pub decimal_same : (n : ℕ) → n < 2 ^ 32 → decimal n ≡ library_decimal n
+pub decimal_same : (n : ℕ) → n < 10 ^ max_digits → decimal n ≡ library_decimal n
 unfolding decimal text_within
 decimal_same n h = decimal_from_appends text_within appends max_digits n (omega arith) (length-decimal-le max_digits n (omega arith) (omega arith) (omega arith))
 
@@ -68,7 +68,7 @@ decimal_same n h = decimal_from_appends text_within appends max_digits n (omega 
 own : IsNumeralModel (AllDigits 10) (reads 0)
 own = numerals_by_fold _ tells_digits reads (search rules)
 
-pub decimal_says : (n : ℕ) → n < 2 ^ 32 → Says n (decimal n)
+pub decimal_says : (n : ℕ) → n < 10 ^ max_digits → Says n (decimal n)
 decimal_says n h =
     let e = decimal_same n h in
     let big : n < 2 ^ 64 = omega arith in

@@ -10,15 +10,22 @@ ghost use Rattle.std.specs.Io.KnownBytes.{Appends, Consumes, IsAtEnd, Keeps};
 ghost use Rattle.std.specs.Process.{exit_status};
 ghost use Rattle.definition.specs.Sizes.{longest_session};
 ghost use Rattle.report.specs.Oversize.{length_bound};
-ghost use Rattle.report.specs.Held.{Holds};
+ghost use Rattle.report.specs.Held.{Enough, Holds};
 
-use report::{File, past_length_field};
+use report::past_length_field;
 use std::io;
 use std::io::{Eprint, Print, Read, Write};
 use std::process::ExitCode;
 
 // Bytes of a buffer that is longer than any session.
 pub const BUFFER_BYTES: usize = 65536;
+
+// What was read: a buffer holds the first `held` bytes of an input of `bytes` bytes.
+#[derive(Clone, Copy)]
+pub struct File {
+    pub held: usize,
+    pub bytes: u64,
+}
 
 // One read, into the bytes from a place on. 0 bytes are the end of the input.
 fn read_from<R: Read>(input: &mut R, buf: &mut [u8], at: usize) -> io::Result<usize>
@@ -77,24 +84,39 @@ fn read_rest<R: Read>(input: &mut R, from: u64) -> io::Result<u64>
 }
 
 // Reads the input: the whole of it into the buffer, or as much as the buffer holds, and the rest is counted.
-pub fn read_file<'a, R: Read>(input: &mut R, buf: &'a mut [u8]) -> io::Result<File<'a>>
+pub fn read_file<R: Read>(input: &mut R, buf: &mut [u8]) -> io::Result<File>
+    requires { longest_session < length buf.old }
+    ensures ok { IfOk result (λ file. (file.held ≤ length buf.new) × Enough file.held file.bytes) }
+    ensures known { IfOk result (λ file. IfSome (R.remaining input.old) (λ xs.
+        Holds (take file.held buf.new) file.bytes xs)) }
+    ensures err { OnErr result ((bs : List ℕ) × Consumes (R.remaining input.old) (R.remaining input.new) bs) }
+{
+    let held = read_head(input, buf)?;
+    if held < buf.len() {
+        return Ok(File {
+            held: held,
+            bytes: held as u64,
+        });
+    }
+    let bytes = read_rest(input, held as u64)?;
+    Ok(File {
+        held: held,
+        bytes: bytes,
+    })
+}
+
+// Reads the input, and lends what the buffer holds of it.
+pub fn hold_file<'a, R: Read>(input: &mut R, buf: &'a mut [u8]) -> io::Result<report::File<'a>>
     requires { longest_session < length buf.old }
     ensures fits { IfOk result (λ file. length file.head.now ≤ length buf.old) }
     ensures known { IfOk result (λ file. IfSome (R.remaining input.old) (λ xs.
         Holds file.head.now file.bytes xs)) }
     ensures err { OnErr result ((bs : List ℕ) × Consumes (R.remaining input.old) (R.remaining input.new) bs) }
 {
-    let held = read_head(input, buf)?;
-    if held < buf.len() {
-        return Ok(File {
-            head: &buf[..held],
-            bytes: held as u64,
-        });
-    }
-    let bytes = read_rest(input, held as u64)?;
-    Ok(File {
-        head: buf,
-        bytes: bytes,
+    let file = read_file(input, buf)?;
+    Ok(report::File {
+        head: &buf[..file.held],
+        bytes: file.bytes,
     })
 }
 
